@@ -8,7 +8,7 @@ use Rattle.std.specs.List.{flat_map, AllByRecursion}
 use Rattle.std.proofs.lemmas.Bool.{eqb-true, ltb-true, lt-ltb, leb-true, le-leb, and_parts, and_from}
 use Rattle.std.proofs.lemmas.Option.{slice_get_within}
 use Rattle.cas_types.specs.Limits.{IsMoment, IsShardCount}
-use Rattle.cas_types.specs.declared.limits.TheConstants.{KEY_LIMIT, LAST_DRAWN, LAST_SECOND, MUTATION_LIMIT, SHARD_LIMIT}
+use Rattle.cas_types.specs.declared.limits.TheConstants.{KEY_LIMIT, LAST_DRAWN, LAST_SECOND, MUTATION_LIMIT, SHARD_LIMIT, COLUMN_LIMIT}
 use Rattle.cas_atoms.specs.Fits.{FitsKey}
 use Rattle.cas_types.specs.declared.schema.Column.{Column}
 use Rattle.cas_types.specs.declared.schema.TableSchema.{TableSchema}
@@ -39,9 +39,7 @@ use Rattle.cas_changes.specs.declared.entry.Entry.TheVariants as entry
 use Rattle.cas_changes.specs.Saying.{Saying, IsSaid, part_of, is_listed, has_file, listed_after}
 use Rattle.cas_changes.specs.Allowed.{IsMade, IsDrawn, may_go, may_come, FitsChange, FitsEntry, FitsNext, IsListable, HasSpelling}
 use Rattle.cas_changes.specs.Spelling.{where_bytes, marks_bytes, removed_bytes, added_bytes, change_bytes, entry_bytes}
-use Rattle.cas_changes.specs.Reading.{is_below, where_at, marks_at, gone_at, come_at, counted_at, made_change, change_at}
-use Rattle.cas_changes.specs.Reading.{store_at, definition_at, new_segment_at, drop_segment_at, changing_at, behind_at, add_columns_at, may_be, kinded_at, fields_at, entry_at}
-use Rattle.cas_types.specs.declared.limits.TheConstants.{COLUMN_LIMIT}
+use Rattle.cas_changes.specs.Reading.{is_below, where_at, marks_at, gone_at, come_at, counted_at, made_change, change_at, store_at, definition_at, new_segment_at, drop_segment_at, changing_at, behind_at, add_columns_at, may_be, kinded_at, fields_at, entry_at}
 
 -- ---- numbers that pass a test
 

@@ -1,7 +1,7 @@
 -- How long an entry may be.
 use Rattle.std.proofs.Common.{◌≡◌, ℕ, ◌<◌, ◌≤◌, ◌+◌, ◌*◌, ◌-◌, ◌^◌, Bool, true, false, List, [], ◌∷◌, ◌++◌, length, Option, None, Some, refl, arith, length-append}
 use Rattle.std.specs.List.{flat_map}
-use Rattle.cas_types.specs.declared.limits.TheConstants.{KEY_LIMIT}
+use Rattle.cas_types.specs.declared.limits.TheConstants.{KEY_LIMIT, COLUMN_LIMIT}
 use Rattle.cas_types.specs.declared.tag.TypeTag.{TypeTag}
 use Rattle.cas_types.specs.declared.schema.Column.{Column}
 use Rattle.cas_types.specs.declared.schema.Options.{Options}
@@ -27,7 +27,6 @@ use Rattle.cas_changes.specs.declared.entry.Entry.TheVariants as entry
 use Rattle.cas_changes.specs.Saying.{Saying, listed_after}
 use Rattle.cas_changes.specs.Allowed.{may_come, FitsEntry, FitsNext, IsListable}
 use Rattle.cas_changes.specs.Spelling.{where_bytes, marks_bytes, removed_bytes, added_bytes, change_bytes, entry_bytes}
-use Rattle.cas_types.specs.declared.limits.TheConstants.{COLUMN_LIMIT}
 
 -- ---- what is told of files
 

@@ -3,7 +3,7 @@
 use Rattle.std.specs.Prelude.{◌≡◌, ◌<◌, ◌≤◌, ◌≤ℤ◌, ◌^◌, ◌-◌, ℕ, ℤ, true, false, ◌&&◌, not, nat_lt, Bool, List, [], length, slice_get, Some}
 use Rattle.std.specs.List.{AllByRecursion, list_all}
 use Rattle.cas_types.specs.Limits.{IsShardCount, IsMoment}
-use Rattle.cas_types.specs.declared.limits.TheConstants.{LAST_DRAWN, MUTATION_LIMIT}
+use Rattle.cas_types.specs.declared.limits.TheConstants.{LAST_DRAWN, MUTATION_LIMIT, COLUMN_LIMIT}
 use Rattle.cas_types.specs.declared.schema.TableSchema.{TableSchema}
 use Rattle.cas_info.specs.Allowed.{FitsInfo}
 use Rattle.cas_info.specs.declared.info.TableInfo.{TableInfo}
@@ -15,7 +15,6 @@ use Rattle.cas_changes.specs.declared.entry.Change.{Change}
 use Rattle.cas_changes.specs.declared.entry.Entry.{Entry}
 use Rattle.cas_changes.specs.declared.entry.Entry.TheVariants as entry
 use Rattle.cas_changes.specs.Saying.{Saying, part_of, is_listed, has_file, listed_after}
-use Rattle.cas_types.specs.declared.limits.TheConstants.{COLUMN_LIMIT}
 
 -- the store's number of shards was said
 abbrev pub IsMade : Saying → Type 0

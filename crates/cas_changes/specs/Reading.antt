@@ -4,7 +4,7 @@ use Rattle.std.specs.Prelude.{ℕ, ℤ, pos, ◌-◌, ◌==◌, nat_lt, nat_le, 
 use Rattle.std.specs.Int.{is_in_range}
 use Rattle.cas_codec.specs.declared.fault.ReadFault.TheVariants.{Bad}
 use Rattle.cas_codec.specs.Reading.{Left, Read, ◌>>=◌, checked, is_within, u8_at, u16_at, u64_at, i64_at}
-use Rattle.cas_types.specs.declared.limits.TheConstants.{LAST_DRAWN, LAST_SECOND, MUTATION_LIMIT, SHARD_LIMIT}
+use Rattle.cas_types.specs.declared.limits.TheConstants.{LAST_DRAWN, LAST_SECOND, MUTATION_LIMIT, SHARD_LIMIT, COLUMN_LIMIT}
 use Rattle.cas_types.specs.declared.schema.TableSchema.{TableSchema}
 use Rattle.cas_info.specs.declared.info.TableInfo.{TableInfo}
 use Rattle.cas_info.specs.Reading.{info_at}
@@ -16,7 +16,6 @@ use Rattle.cas_changes.specs.declared.entry.Entry.{Entry}
 use Rattle.cas_changes.specs.declared.entry.Entry.TheVariants as entry
 use Rattle.cas_changes.specs.Saying.{Saying, part_of, is_listed, listed_after}
 use Rattle.cas_changes.specs.Allowed.{may_go, may_come}
-use Rattle.cas_types.specs.declared.limits.TheConstants.{COLUMN_LIMIT}
 
 -- ---- changes
 

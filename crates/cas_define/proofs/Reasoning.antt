@@ -1,6 +1,5 @@
 -- What the order of refusals tells of a definition that isn't refused.
-use Rattle.std.proofs.Common.{◌≡◌, ℕ, ◌<◌, ◌≤◌, ◌+◌, nat_lt, nat_le, Bool, true, false, List, [], ◌∷◌, ◌++◌, length, map}
-use Rattle.std.proofs.Common.{Option, None, Some, refl, length-append, arith}
+use Rattle.std.proofs.Common.{◌≡◌, ℕ, ◌<◌, ◌≤◌, ◌+◌, nat_lt, nat_le, Bool, true, false, List, [], ◌∷◌, ◌++◌, length, map, Option, None, Some, refl, length-append, arith}
 use Rattle.std.specs.Bool.{then_some}
 use Rattle.std.specs.Option.{option_or}
 use Rattle.std.proofs.lemmas.Bool.Decides.{nat_tests}
@@ -12,8 +11,7 @@ use Rattle.cql_parse.specs.declared.syntax.AlterTable.{AlterTable}
 use Rattle.cas_effects.specs.Refusals.{first_of, refusal_for}
 use Rattle.cas_effects.specs.declared.reasons.Reasons.{Reasons}
 use Rattle.cas_effects.specs.declared.refusal.Refusal.{Refusal}
-use Rattle.cas_effects.specs.declared.refusal.Refusal.TheVariants.{NoTable, NoColumn, WrongType, MissingKey, BadRestriction}
-use Rattle.cas_effects.specs.declared.refusal.Refusal.TheVariants.{BadOption, TableExists, EmptyKey, TtlTooLarge, BadDefinition}
+use Rattle.cas_effects.specs.declared.refusal.Refusal.TheVariants.{NoTable, NoColumn, WrongType, MissingKey, BadRestriction, BadOption, TableExists, EmptyKey, TtlTooLarge, BadDefinition}
 use Rattle.cas_define.specs.Limits.{too_many_tables, too_many_columns}
 use Rattle.cas_define.specs.Schemas.{columns_of, added_column}
 use Rattle.cas_define.specs.CreateReasons.{create_reasons}

@@ -1,6 +1,5 @@
 -- A file that is read piece by piece.
-use Rattle.std.proofs.Common.{◌≡◌, ⊎_elim, ℕ, ◌+◌, ◌<◌, List, ◌++◌, length, take, drop}
-use Rattle.std.proofs.Common.{Option, sym, ◌∙◌, ap, subst, arith, length-append, length-take, length-drop, take-append-drop}
+use Rattle.std.proofs.Common.{◌≡◌, ⊎_elim, ℕ, ◌+◌, ◌<◌, List, ◌++◌, length, take, drop, Option, sym, ◌∙◌, ap, subst, arith, length-append, length-take, length-drop, take-append-drop}
 use Rattle.std.proofs.lemmas.List.{take-take, drop-take, drop-drop, take_all}
 use Rattle.cas_disk.specs.declared.name.Name.{Name}
 use Rattle.cas_disk.specs.Disk.{Image, Disk, During, Follows, Same, Gives, bytes_of}

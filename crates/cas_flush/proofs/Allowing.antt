@@ -19,8 +19,7 @@ use Rattle.cas_bounds.specs.declared.cuts.Clustering.{Clustering}
 use Rattle.cas_atoms.specs.Coordinates.{RowKey, clustered, static_row, Coordinate, row, path, same_values, same_row, same_bytes, is_at, live_at_row, cell_at_path}
 use Rattle.cas_atoms.specs.Fits.{FitsValues, FitsDeletion, FitsLive, FitsPath, FitsCell, is_cell_value, Fits}
 use Rattle.cas_atoms.specs.declared.atom.Atom.{Atom}
-use Rattle.cas_atoms.specs.declared.atom.Atom.TheVariants.{PartitionDeletion, RangeDeletion, RowDeletion, CollectionDeletion}
-use Rattle.cas_atoms.specs.declared.atom.Atom.TheVariants.{Live, Write, StaticWrite, StaticCollectionDeletion}
+use Rattle.cas_atoms.specs.declared.atom.Atom.TheVariants.{PartitionDeletion, RangeDeletion, RowDeletion, CollectionDeletion, Live, Write, StaticWrite, StaticCollectionDeletion}
 use Rattle.cas_atoms.specs.declared.atom.ColumnRef.{ColumnRef}
 use Rattle.cas_atoms.specs.declared.row.PathCell.{PathCell}
 use Rattle.cas_laws.specs.Given.{Gives}

@@ -34,10 +34,11 @@ use Rattle.cas_sstwrite.specs.Finished.{FinishFault}
 
 -- ---- what is written
 
--- what a partition says under a key, and what partitions do
+-- what a partition says under a key
 abbrev pub said_at : List ℕ → Partition → List Atom
 said_at key p = if same_bytes p.key key then flat_of p.stream else []
 
+-- what partitions say under a key, one after another
 abbrev pub said_under : List ℕ → List Partition → List Atom
 said_under key ps = flat_map (said_at key) ps
 

@@ -32,6 +32,7 @@ column_length c = 2 + (maybe_deletion_length c.deletion + (4 + sum_by path_cell_
 abbrev pub columns_length : List RowColumn → ℕ
 columns_length cs = 2 + sum_by column_length cs
 
+-- the clustering's values, its deletion, its liveness, and the columns
 abbrev pub row_length : Row → ℕ
 row_length r = values_length r.clustering.values + (maybe_deletion_length r.deletion + (maybe_live_length r.live + columns_length r.columns))
 

@@ -27,8 +27,7 @@ use Rattle.cas_journal.specs.declared.journal.Journal.{Journal}
 use Rattle.cas_journal.proofs.Lists.{all_front, all_back, front_in_order, take_front}
 use Rattle.cas_journal.proofs.Fitting.{IsAppended, goes_on_fitting}
 use Rattle.cas_journal.proofs.Sayings.{InOrder, in_order}
-use Rattle.cas_journal.proofs.Segments.{joined_more, segments_more, log_with_empty, log_agrees, log_fits}
-use Rattle.cas_journal.proofs.Segments.{others_agree, none_is_manifest}
+use Rattle.cas_journal.proofs.Segments.{joined_more, segments_more, log_with_empty, log_agrees, log_fits, others_agree, none_is_manifest}
 
 -- ---- what stands is in each image
 

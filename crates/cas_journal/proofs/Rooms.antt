@@ -4,7 +4,6 @@ use Rattle.std.specs.Prelude.{MatchResult}
 use Rattle.std.proofs.lemmas.List.{append-nil}
 use Rattle.cas_disk.specs.Disk.{Image, Disk, During}
 use Rattle.cas_disk.proofs.Moments.{reworded, leaves_either}
-use Rattle.cas_atoms.specs.declared.atom.Mutation.{Mutation}
 use Rattle.cas_changes.specs.declared.entry.Entry.TheVariants.{NewSegment}
 use Rattle.cas_journal.specs.Stores.{Told, Holds, MadeRoom, HoldsWithRoom, committed_all, appended, failed_at}
 use Rattle.cas_journal.specs.Journals.{Lasts}
@@ -70,14 +69,14 @@ named_lasts k disk t n (Err (TooLarge long most)) lasts = (t, none_made t, lasts
 named_lasts k disk t n (Err (Stopped x)) lasts = (t, none_made t, lasts)
 
 -- after it was seen that the record fits, or all was committed
-pub fitting_lasts : (k : Journal) (m : Mutation) (disk : Disk) (t : Told) → t.committed ≤ length t.taken → FitsOrSettled k m disk t → (u : Told) × MadeRoom t u × Lasts k disk u
-fitting_lasts k m disk t few (inl fits) = (t, none_made t, fits.1)
-fitting_lasts k m disk t few (inr settled) = (committed_all t, settled_made t few, settled)
+pub fitting_lasts : (k : Journal) (long : ℕ) (disk : Disk) (t : Told) → t.committed ≤ length t.taken → FitsOrSettled k long disk t → (u : Told) × MadeRoom t u × Lasts k disk u
+fitting_lasts k long disk t few (inl fits) = (t, none_made t, fits.1)
+fitting_lasts k long disk t few (inr settled) = (committed_all t, settled_made t few, settled)
 
 -- where it doesn't fit all was committed
-pub all_settled : (k : Journal) (m : Mutation) (disk : Disk) (t : Told) (room : Bool) → room ≡ fits_in k.log m → room ≡ false → FitsOrSettled k m disk t → Lasts k disk (committed_all t)
-all_settled k m disk t room is none (inl fits) = absurd (not_both (sym none ∙ is ∙ fits.0))
+pub all_settled : (k : Journal) (long : ℕ) (disk : Disk) (t : Told) (room : Bool) → room ≡ fits_in k.log long → room ≡ false → FitsOrSettled k long disk t → Lasts k disk (committed_all t)
+all_settled k long disk t room is none (inl fits) = absurd (not_both (sym none ∙ is ∙ fits.0))
   where
     not_both : false ≡ true → ⊥
     not_both e = cc
-all_settled k m disk t room is none (inr settled) = settled
+all_settled k long disk t room is none (inr settled) = settled

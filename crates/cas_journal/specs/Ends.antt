@@ -35,6 +35,7 @@ EndsBy Mem kept before now = kept ≡ None
 EndsBy (TooLarge length most) kept before now = ⊥
 EndsBy (Stopped first) kept before now = ⊥
 
+-- How a call ends: one that a fault kept from before stops does nothing; any other keeps none when it is done, and what its own fault says else.
 abbrev pub Ends : {T : Type 0} → Option First → Option First → ℕ → ℕ → Result T JournalFault → Type 0
 Ends (Some first) kept before now result = (result ≡ Err (Stopped first)) × (kept ≡ Some first) × (now ≡ before)
 Ends None kept before now (Ok x) = kept ≡ None

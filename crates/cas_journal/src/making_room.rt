@@ -1,7 +1,7 @@
 //! Makes room for a mutation: where the segment that is written has none left, the next one is begun
 //! and named.
 
-ghost use Rattle.std.specs.Prelude.{◌≡◌, ◌⊎◌, ◌+◌, ◌<◌, ◌≤◌, ◌^◌, None, Err, Ok, OnOk, IfErr, MatchResult, length, IsSome, Some};
+ghost use Rattle.std.specs.Prelude.{◌≡◌, ◌⊎◌, ◌+◌, ◌<◌, ◌≤◌, ◌^◌, None, Err, Ok, OnOk, IfOk, IfErr, MatchResult, length, IsSome, Some};
 ghost use Rattle.cas_disk.specs.Disk.{During, Same, Leaves};
 ghost use Rattle.cas_atoms.specs.declared.atom.Mutation.{Mutation as MutationOf};
 ghost use Rattle.cas_atoms.specs.LogLength.{record_length};
@@ -25,9 +25,10 @@ use cas_types::Mem;
 use std::alloc::Global;
 
 impl Journal {
-    // What can be asked before anything is done.
-    fn ask(&self, mutation: &Mutation) -> Result<(), JournalFault>
-        ensures { Asks (record_length mutation.now) (half self.now.size) self.now.first result }
+    // What can be asked before anything is done. Tells how many bytes the mutation's record has.
+    fn ask(&self, mutation: &Mutation) -> Result<u64, JournalFault>
+        ensures asks { Asks (record_length mutation.now) (half self.now.size) self.now.first result }
+        ensures bytes { IfOk result (λ n. n ≡ record_length mutation.now) }
     {
         let length = length(mutation);
         let limit = self.size / 2;
@@ -36,18 +37,24 @@ impl Journal {
         }
         match self.first {
             Some(first) => Err(JournalFault::Stopped(first)),
-            None => Ok(()),
+            None => Ok(length),
         }
     }
 
     // Makes memory for a record in the segment that is written, where there is one, and room to note it.
-    fn reserve<F: Folder>(&mut self, folder: &F, mutation: &Mutation) -> Result<(), JournalFault>
-        requires short { record_length mutation.now ≤ half self.old.size }
+    fn reserve<F: Folder>(
+        &mut self,
+        folder: &F,
+        mutation: &Mutation,
+        bytes: u64,
+    ) -> Result<(), JournalFault>
+        requires known { bytes ≡ record_length mutation.now }
+        requires short { bytes ≤ half self.old.size }
         ensures memory { OnOk result (HasMemory self.new.log mutation.now) }
         ensures place { OnOk result (HasPlace self.new.notes mutation.now) }
         ensures why { IfErr result (λ f. f ≡ JournalFault.Mem) }
         ensures lasts { (t : Told) → Lasts self.old (F.disk folder.now) t → Lasts self.new (F.disk folder.now) t }
-        ensures fits { fits_in self.new.log mutation.now ≡ fits_in self.old.log mutation.now }
+        ensures fits { fits_in self.new.log bytes ≡ fits_in self.old.log bytes }
         ensures manifest { self.new.manifest ≡ self.old.manifest }
         ensures spare { self.new.spare ≡ self.old.spare }
         ensures last { self.new.last_segment ≡ self.old.last_segment }
@@ -60,40 +67,40 @@ impl Journal {
         let Some(log) = &mut self.log else {
             return Ok(());
         };
-        match log.reserve(mutation) {
+        match log.reserve(bytes) {
             Ok(()) => Ok(()),
             Err(fault) => Err(JournalFault::from(fault)),
         }
     }
 
-    // Whether a record fits into the segment that is written.
-    fn has_room(&self, mutation: &Mutation) -> bool
-        requires { record_length mutation.now < 2 ^ 32 }
-        ensures { result ≡ fits_in self.now.log mutation.now }
+    // Whether a record of so many bytes fits into the segment that is written.
+    fn has_room(&self, bytes: u64) -> bool
+        requires { bytes < 2 ^ 32 }
+        ensures { result ≡ fits_in self.now.log bytes }
     {
         match &self.log {
-            Some(log) => log.has_room(mutation),
+            Some(log) => log.has_room(bytes),
             None => false,
         }
     }
 
-    // Whether what is pending, with a record, is at most half a segment.
-    fn is_short(&self, mutation: &Mutation) -> bool {
+    // Whether what is pending, with a record of so many bytes, is at most half a segment.
+    fn is_short(&self, bytes: u64) -> bool {
         match &self.log {
-            Some(log) => log.pending().saturating_add(length(mutation)) <= self.size / 2,
+            Some(log) => log.pending().saturating_add(bytes) <= self.size / 2,
             None => true,
         }
     }
 
-    // Commits what is pending where the record doesn't fit behind it, or would make it longer than half
-    // a segment.
-    fn settle<F: Folder>(&mut self, folder: &mut F, mutation: &Mutation) -> Result<(), JournalFault>
-        requires short { record_length mutation.now ≤ half self.old.size }
+    // Commits what is pending where a record of so many bytes doesn't fit behind it, or would make
+    // it longer than half a segment.
+    fn settle<F: Folder>(&mut self, folder: &mut F, bytes: u64) -> Result<(), JournalFault>
+        requires short { bytes ≤ half self.old.size }
         requires free { AreFree self.old (F.disk folder.old) }
         requires going { self.old.first ≡ None }
         ensures free { AreFree self.new (F.disk folder.new) }
         ensures lasts { (t : Told) → Lasts self.old (F.disk folder.old) t
-            → MatchResult result (λ _. FitsOrSettled self.new mutation.now (F.disk folder.new) t) (λ _. Lasts self.new (F.disk folder.new) t) }
+            → MatchResult result (λ _. FitsOrSettled self.new bytes (F.disk folder.new) t) (λ _. Lasts self.new (F.disk folder.new) t) }
         ensures during { (t : Told) → Lasts self.old (F.disk folder.old) t → Leaves (λ c. Holds t c) (F.disk folder.old) (F.disk folder.new) }
         ensures tables { During SameTables (F.disk folder.old) (F.disk folder.new) }
         ensures outcome { Ends self.old.first self.new.first (F.faults_of folder.old) (F.faults_of folder.new) result }
@@ -103,10 +110,10 @@ impl Journal {
         ensures spare { self.new.spare ≡ self.old.spare }
         ensures last { self.new.last_segment ≡ self.old.last_segment }
         ensures size { self.new.size ≡ self.old.size }
-        ensures memory { HasMemory self.old.log mutation.now → HasMemory self.new.log mutation.now }
+        ensures memory { (m : MutationOf) → HasMemory self.old.log m → HasMemory self.new.log m }
         ensures notes { self.new.notes ≡ self.old.notes }
     {
-        if self.has_room(mutation) && self.is_short(mutation) {
+        if self.has_room(bytes) && self.is_short(bytes) {
             return Ok(());
         }
         self.commit(folder)
@@ -176,8 +183,10 @@ impl Journal {
         &mut self,
         folder: &F,
         mutation: &Mutation,
+        bytes: u64,
     ) -> Result<(), JournalFault>
-        requires short { record_length mutation.now ≤ half self.old.size }
+        requires known { bytes ≡ record_length mutation.now }
+        requires short { bytes ≤ half self.old.size }
         ensures memory { OnOk result (HasMemory self.new.spare mutation.now) }
         ensures next { OnOk result (HasNext self.new.notes mutation.now) }
         ensures why { IfErr result (λ f. f ≡ JournalFault.Mem) }
@@ -195,7 +204,7 @@ impl Journal {
         let Some(log) = &mut self.spare else {
             return Ok(());
         };
-        match log.reserve(mutation) {
+        match log.reserve(bytes) {
             Ok(()) => Ok(()),
             Err(fault) => Err(JournalFault::from(fault)),
         }
@@ -243,8 +252,10 @@ impl Journal {
         alloc: Global,
         folder: &mut F,
         mutation: &Mutation,
+        bytes: u64,
     ) -> Result<(), JournalFault>
-        requires short { record_length mutation.now ≤ half self.old.size }
+        requires known { bytes ≡ record_length mutation.now }
+        requires short { bytes ≤ half self.old.size }
         requires free { AreFree self.old (F.disk folder.old) }
         requires going { self.old.first ≡ None }
         ensures free { AreFree self.new (F.disk folder.new) }
@@ -262,7 +273,7 @@ impl Journal {
         ensures size { self.new.size ≡ self.old.size }
     {
         self.begin_next(alloc, folder)?;
-        self.reserve_spare(folder, mutation)?;
+        self.reserve_spare(folder, mutation, bytes)?;
         self.name_next(alloc, folder)
     }
 
@@ -290,12 +301,12 @@ impl Journal {
         ensures count { F.faults_of folder.old ≤ F.faults_of folder.new }
         ensures size { self.new.size ≡ self.old.size }
     {
-        self.ask(mutation)?;
-        self.reserve(folder, mutation)?;
-        self.settle(folder, mutation)?;
-        if self.has_room(mutation) {
+        let bytes = self.ask(mutation)?;
+        self.reserve(folder, mutation, bytes)?;
+        self.settle(folder, bytes)?;
+        if self.has_room(bytes) {
             return Ok(());
         }
-        self.next_segment(alloc, folder, mutation)
+        self.next_segment(alloc, folder, mutation, bytes)
     }
 }

@@ -36,8 +36,7 @@ use Rattle.cas_changes.specs.Saying.{part_of, said_by}
 use Rattle.cas_memtable.specs.Kept.{bytes_of}
 use Rattle.cas_shard.specs.Flushing.{KeepsBytes, bytes_at, one_of}
 use Rattle.cas_shard.specs.declared.entry.ShardOpening.{ShardOpening}
-use Rattle.cas_shard.specs.Shards.{ShardHistory, Prepares, empty_shard, found_shard, mutation_at, number_of, prepare_answer, raised, restored, take_refusal, taken_unless, wants}
-use Rattle.cas_shard.specs.Shards.{entered as with_entered}
+use Rattle.cas_shard.specs.Shards.{ShardHistory, Prepares, empty_shard, found_shard, mutation_at, number_of, prepare_answer, raised, restored, take_refusal, taken_unless, wants, entered as with_entered}
 use Rattle.cas_shard.specs.Stands.{Belongs, IsPrepared, IsReady, KeepsFiles, ShardState, Stands, Suits, files_at}
 use Rattle.cas_sstread.specs.Loading.{Held}
 use Rattle.cas_view.specs.Views.{File}

@@ -11,8 +11,7 @@ use Rattle.cas_shard.specs.declared.entry.Entry.{Entry}
 use Rattle.cas_shard.specs.declared.entry.Entry.TheVariants.{Wrote}
 use Rattle.cas_shard.specs.Stands.{ShardState, mutations_of}
 use Rattle.cas_recovery.proofs.Places.{get_here, get_other, is_other, is_same, same_place}
-use Rattle.cas_lasting.specs.Flushed.{filled_with}
-use Rattle.cas_lasting.specs.Flushed.{without_begun}
+use Rattle.cas_lasting.specs.Flushed.{filled_with, without_begun}
 use Rattle.cas_lasting.specs.History.{History, with_filled}
 use Rattle.cas_lasting.specs.Nodes.{AreFilled, State, StandsFor, bytes_in, filled_of}
 

@@ -7,8 +7,7 @@ use Rattle.cas_types.specs.declared.schema.TableSchema.{TableSchema}
 use Rattle.cas_cell.specs.declared.deletion.Deletion.{Deletion}
 use Rattle.cas_atoms.specs.Coordinates.{RowKey, clustered, static_row, path, is_at, same_row, same_values}
 use Rattle.cas_atoms.specs.declared.atom.Atom.{Atom}
-use Rattle.cas_atoms.specs.declared.atom.Atom.TheVariants.{PartitionDeletion, RangeDeletion, RowDeletion, CollectionDeletion}
-use Rattle.cas_atoms.specs.declared.atom.Atom.TheVariants.{Live, Write, StaticWrite, StaticCollectionDeletion}
+use Rattle.cas_atoms.specs.declared.atom.Atom.TheVariants.{PartitionDeletion, RangeDeletion, RowDeletion, CollectionDeletion, Live, Write, StaticWrite, StaticCollectionDeletion}
 use Rattle.cas_codec.proofs.FieldLengths.{bytes16_long, u16_long, u32_long}
 use Rattle.cas_codec.specs.Fields.{bytes16, maybe, u8, u16}
 use Rattle.cas_facts.specs.Facts.{AreFacts}

@@ -18,7 +18,7 @@ use Rattle.cas_journal.specs.Reach.{Reach, GoesOn, HasNoPlace, reach_of}
 use Rattle.cas_journal.specs.declared.fault.Counted.{Counted}
 use Rattle.cas_journal.specs.declared.fault.JournalFault.{JournalFault}
 use Rattle.cas_journal.specs.declared.fault.JournalFault.TheVariants.{TooLarge, TooMany, Stopped, Failed, Mem}
-use Rattle.cas_journal.specs.Stores.{MayList, SameTables, appended, failed_at}
+use Rattle.cas_journal.specs.Stores.{MayList, SameTables, appended, failed_at, Told}
 use Rattle.cas_manifest.proofs.Appends.{said_more}
 use Rattle.cas_manifest.specs.Manifests.{room_of}
 use Rattle.cas_render.specs.declared.reply.Failure.TheVariants as failure
@@ -32,7 +32,6 @@ use Rattle.cas_changes.specs.Saying.{Saying, said_by, nothing, after, frontiers_
 use Rattle.cas_changes.specs.declared.entry.Entry.{Entry as ManifestEntry}
 use Rattle.cas_define.specs.declared.addition.Addition.{Addition}
 use Rattle.cas_history.specs.declared.item.Item.{Item}
-use Rattle.cas_journal.specs.Stores.{Told}
 use Rattle.cas_journal.proofs.Fitting.{NoKeys, no_keys, same_order}
 use Rattle.cas_room.specs.declared.event.Event.{Event}
 use Rattle.cas_room.specs.Keeping.{Keeps}

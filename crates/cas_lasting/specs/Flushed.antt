@@ -1,6 +1,6 @@
 -- What a flush leaves, in the words of the history: one table file more in each shard, and what stands in none then.
 -- Cassandra documentation, "nodetool flush"; "Storage engine: memtables, SSTables"; the numbers of files and of faults are own.
-use Rattle.std.specs.Prelude.{◌≡◌, ◌⊎◌, ℕ, ◌+◌, ◌≤◌, ◌<◌, ◌==◌, ◌&&◌, nat_lt, if◌then◌else◌, true, false, Option, None, Some, is_some}
+use Rattle.std.specs.Prelude.{◌≡◌, ◌⊎◌, ℕ, ◌+◌, ◌≤◌, ◌<◌, ◌==◌, ◌&&◌, nat_lt, if◌then◌else◌, true, false, Option, None, Some, is_some, Bool}
 use Rattle.std.specs.Prelude.{List, [], ◌∷◌, ◌++◌, length, slice_index_or}
 use Rattle.std.specs.List.{flat_map, fold}
 use Rattle.std.specs.Int.{int_max}
@@ -24,7 +24,6 @@ use Rattle.cas_streams.specs.Streams.{IsThere}
 use Rattle.cas_view.specs.Views.{File}
 use Rattle.cas_lasting.specs.History.{History, DiskState, reach_with, shard_at}
 use Rattle.cas_lasting.specs.TooMuch.{IsOverfull}
-use Rattle.std.specs.Prelude.{Bool}
 
 -- ---- one shard
 
@@ -56,11 +55,12 @@ SaySomething ws = (key : List ℕ) × IsThere (atoms_under key ws)
 
 -- ---- the shards, one after another
 
--- the numbers of the files that changes add, in the order of the shards
+-- the numbers of the files that a change adds, if there is one
 abbrev pub numbers_in : Option Change → List ℕ
 numbers_in None = []
 numbers_in (Some c) = added_by c
 
+-- the numbers of the files that changes add, in the order of the shards
 abbrev pub numbers_added : List (Option Change) → List ℕ
 numbers_added changes = flat_map numbers_in changes
 

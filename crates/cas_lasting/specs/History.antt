@@ -73,11 +73,12 @@ pub record History : Type 0 where
   pub trimmed : Bool
   pub disk : DiskState
 
--- the changes of table files that entries of the manifest tell, in order
+-- the change of table files that an entry of the manifest tells, if it tells one
 abbrev pub change_told : ManifestEntry → List Change
 change_told (change_entry c) = c ∷ []
 change_told _ = []
 
+-- the changes of table files that entries of the manifest tell, in order
 abbrev pub changes_told : List ManifestEntry → List Change
 changes_told entries = flat_map change_told entries
 

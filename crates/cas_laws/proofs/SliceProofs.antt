@@ -10,12 +10,10 @@ use Rattle.cas_cell.specs.declared.deletion.Deletion.{Deletion}
 use Rattle.cas_bounds.specs.Cuts.{is_inside}
 use Rattle.cas_bounds.specs.declared.cuts.Slice.{Slice}
 use Rattle.cas_atoms.specs.Greatest.{greater, greatest}
-use Rattle.cas_atoms.specs.Coordinates.{Coordinate, RowKey, clustered, static_row, row, path, row_of, same_values, same_bytes, same_row}
-use Rattle.cas_atoms.specs.Coordinates.{deletion_at, live_at_row, cell_at_path}
+use Rattle.cas_atoms.specs.Coordinates.{Coordinate, RowKey, clustered, static_row, row, path, row_of, same_values, same_bytes, same_row, deletion_at, live_at_row, cell_at_path}
 use Rattle.cas_atoms.specs.Winners.{cover, standing, live_winner, cell_winner}
 use Rattle.cas_atoms.specs.declared.atom.Atom.{Atom}
-use Rattle.cas_atoms.specs.declared.atom.Atom.TheVariants.{PartitionDeletion, RangeDeletion, RowDeletion, CollectionDeletion}
-use Rattle.cas_atoms.specs.declared.atom.Atom.TheVariants.{Live, Write, StaticWrite, StaticCollectionDeletion}
+use Rattle.cas_atoms.specs.declared.atom.Atom.TheVariants.{PartitionDeletion, RangeDeletion, RowDeletion, CollectionDeletion, Live, Write, StaticWrite, StaticCollectionDeletion}
 use Rattle.cas_laws.specs.Inside.{SameIn, is_in, is_read}
 use Rattle.cas_laws.specs.Laws.{SliceReads}
 use Rattle.cas_laws.proofs.ShownProofs.{equal_values}

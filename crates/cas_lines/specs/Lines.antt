@@ -1,8 +1,7 @@
 -- What a line of a script says: nothing, a statement, `\clock n`, `\flush t`, `\verify t`, `\status`, or nothing that is known.
 -- CQL documentation, "Definitions: comments"; the commands are own, `\flush` and `\verify` after the tools "nodetool flush" and "nodetool verify", `\status`
 -- after "nodetool tablestats".
-use Rattle.std.specs.Prelude.{◌≡◌, ℕ, ◌==◌, ℤ, pos, int_le, Bool, true, false, ◌&&◌, if◌then◌else◌}
-use Rattle.std.specs.Prelude.{List, [], ◌∷◌, codes, Option, None, Some, IsUtf8}
+use Rattle.std.specs.Prelude.{◌≡◌, ℕ, ◌==◌, ℤ, pos, int_le, Bool, true, false, ◌&&◌, if◌then◌else◌, List, [], ◌∷◌, codes, Option, None, Some, IsUtf8}
 use Rattle.std.specs.List.{filter, slice_split}
 use Rattle.std.specs.Str.{str_eq_ignore_ascii_case}
 use Rattle.cql_lex.specs.declared.token.Token.{Token}

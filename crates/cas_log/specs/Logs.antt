@@ -48,9 +48,13 @@ block_length log = vec_len log.block + 1
 abbrev pub IsOfATable : Mutation → Type 0
 IsOfATable m = (table : TableSchema) × (shards : ℕ) × FitsMutation table shards m
 
+-- there is memory for a record of so many bytes
+abbrev pub HasMemoryFor : Log → ℕ → Type 0
+HasMemoryFor log bytes = vec_len log.block + bytes ≤ vec_capacity log.block
+
 -- there is memory for its record
 abbrev pub IsReserved : Log → Mutation → Type 0
-IsReserved log m = vec_len log.block + record_length m ≤ vec_capacity log.block
+IsReserved log m = HasMemoryFor log (record_length m)
 
 -- the longest record: half of a segment
 abbrev pub half : ℕ → ℕ

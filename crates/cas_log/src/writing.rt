@@ -6,12 +6,12 @@ ghost use Rattle.cas_disk.specs.Disk.{Image, During, Changed, MayBeAnything, Sam
 ghost use Rattle.cas_atoms.specs.declared.atom.Mutation.{Mutation as MutationOf};
 ghost use Rattle.cas_atoms.specs.LogLength.{record_length};
 ghost use Rattle.cas_log.specs.Segment.{IsSize};
-ghost use Rattle.cas_log.specs.Logs.{Stands, HasPushed, MayHave, Ends, place_of, moved, block_length, IsOfATable, IsReserved, WhyNotReserved, half};
+ghost use Rattle.cas_log.specs.Logs.{Stands, HasPushed, MayHave, Ends, place_of, moved, block_length, HasMemoryFor, IsOfATable, IsReserved, WhyNotReserved, half};
 
 use crate::blocks::{add_record, first_bytes, no_records, take_records};
 use crate::fault::LogFault;
 use crate::log::Log;
-use cas_atoms::{Mutation, length};
+use cas_atoms::Mutation;
 use cas_disk::{Folder, FolderFault, Name, make};
 use cas_gates::{First, write_gated};
 use cas_io::Failed;
@@ -73,21 +73,22 @@ impl Log {
         }
     }
 
-    /// Makes room for a mutation's record, so that it can be pushed without memory.
-    pub fn reserve(&mut self, mutation: &Mutation) -> Result<(), LogFault>
-        ensures reserved { OnOk result (IsReserved self.new mutation.now) }
+    /// Makes room for a record of so many bytes, so that it can be pushed without memory.
+    pub fn reserve(&mut self, bytes: u64) -> Result<(), LogFault>
+        ensures reserved { OnOk result (HasMemoryFor self.new bytes) }
         ensures place { place_of self.new ≡ place_of self.old }
         ensures pushed { (pushed : List MutationOf) → HasPushed self.old pushed → HasPushed self.new pushed }
         ensures long { block_length self.new ≡ block_length self.old }
-        ensures why { MatchResult result (λ _. record_length mutation.now ≤ half (place_of self.old).size)
-            (λ f. WhyNotReserved f (record_length mutation.now) (half (place_of self.old).size)) }
+        ensures why { MatchResult result (λ _. bytes ≤ half (place_of self.old).size) (λ f. WhyNotReserved f bytes (half (place_of self.old).size)) }
     {
-        let length = length(mutation);
         let limit = self.size / 2;
-        if length > limit {
-            return Err(LogFault::TooLarge { length, limit });
+        if bytes > limit {
+            return Err(LogFault::TooLarge {
+                length: bytes,
+                limit,
+            });
         }
-        self.block.reserve(length as usize)?;
+        self.block.reserve(bytes as usize)?;
         Ok(())
     }
 
@@ -98,12 +99,12 @@ impl Log {
         self.block.len() as u64 - 9
     }
 
-    /// Whether a mutation's record fits behind those that are pushed.
-    pub fn has_room(&self, mutation: &Mutation) -> bool
-        requires { record_length mutation.now < 2 ^ 32 }
-        ensures { result ≡ nat_le ((place_of self.now).end + block_length self.now + record_length mutation.now) (place_of self.now).size }
+    /// Whether a record of so many bytes fits behind those that are pushed.
+    pub fn has_room(&self, bytes: u64) -> bool
+        requires { bytes < 2 ^ 32 }
+        ensures { result ≡ nat_le ((place_of self.now).end + block_length self.now + bytes) (place_of self.now).size }
     {
-        self.end + self.block.len() as u64 + 1 + length(mutation) <= self.size
+        self.end + self.block.len() as u64 + 1 + bytes <= self.size
     }
 
     /// Adds a mutation to those that the next commit takes.

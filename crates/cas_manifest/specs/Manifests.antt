@@ -1,6 +1,5 @@
 -- What a manifest stands for, and what its calls leave. Own.
-use Rattle.std.specs.Prelude.{◌≡◌, ◌≢◌, ◌⊎◌, ℕ, ◌+◌, ◌==◌, nat_lt, Bool, false, if◌then◌else◌}
-use Rattle.std.specs.Prelude.{List, [], ◌∷◌, ◌++◌, length, Option, None, Some, Result, Ok, Err}
+use Rattle.std.specs.Prelude.{◌≡◌, ◌≢◌, ◌⊎◌, ℕ, ◌+◌, ◌==◌, nat_lt, Bool, false, if◌then◌else◌, List, [], ◌∷◌, ◌++◌, length, Option, None, Some, Result, Ok, Err}
 use Rattle.cas_io.specs.Causes.{Rose}
 use Rattle.cas_disk.specs.declared.name.Name.TheVariants.{Manifest as manifest_name}
 use Rattle.cas_disk.specs.Disk.{Disk, IsKept}

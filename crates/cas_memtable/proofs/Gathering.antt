@@ -4,7 +4,7 @@ use Rattle.std.specs.Option.{option_to_list}
 use Rattle.cas_cell.specs.declared.deletion.Deletion.{Deletion}
 use Rattle.cas_bounds.specs.declared.cuts.Slice.{Slice}
 use Rattle.cas_memtable.specs.Memtables.{held_at, GivesPart}
-use Rattle.cas_memtable.specs.Inner.Gathered.{Gathers, GathersBehind}
+use Rattle.cas_memtable.specs.Inner.Gathered.{GathersBehind}
 use Rattle.cas_memtable.specs.declared.memtable.MemPart.{MemPart}
 use Rattle.cas_streams.specs.declared.fragment.Fragment.{Fragment}
 

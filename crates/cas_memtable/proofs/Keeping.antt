@@ -1,6 +1,6 @@
 -- Which mutations stand in a memtable after a call on it, and in all memtables of a table.
-use Rattle.std.proofs.Common.{◌≡◌, ◌≢◌, ◌⊎◌, inl, inr, ◌≤◌, ℕ, zero, suc, ℤ, Bool, true, false, Option, None, List, [], ◌∷◌, ◌++◌, length, refl, sym, ap, ◌∙◌, subst, arith, append-nil, append_assoc}
-use Rattle.std.specs.Prelude.{◌==◌, map, drop, if◌then◌else◌}
+use Rattle.std.proofs.Common.{◌≡◌, ◌≢◌, ◌⊎◌, inl, inr, ◌≤◌, ℕ, zero, suc, ℤ, Bool, true, false, Option, None, List, [], ◌∷◌, ◌++◌, length, Result, Ok, Err, OnOk, refl, sym, ap, ◌∙◌, subst, arith, append-nil, append_assoc}
+use Rattle.std.specs.Prelude.{◌==◌, map, drop, is_ok, OnErr, if◌then◌else◌}
 use Rattle.std.specs.List.{AllByRecursion}
 use Rattle.std.specs.Ordering.{is_eq}
 use Rattle.std.specs.Cmp.{Equal-is}
@@ -22,7 +22,7 @@ use Rattle.cas_streams.specs.NoMore.{SaysNoMore}
 use Rattle.cas_streams.specs.Streams.{IsThere}
 use Rattle.cas_streams.proofs.NoMore.{no_more_itself, no_more_kept, no_more_then}
 use Rattle.cas_partition.specs.Ends.{AreAtEnds}
-use Rattle.cas_partition.specs.Partitions.{AreAtomsOf}
+use Rattle.cas_partition.specs.Partitions.{AllFit, AreAtomsOf}
 use Rattle.cas_memtable.specs.Memtables.{held_at, atoms_held, atoms_of, changes_held, changes_of, least_held, least_of, least_with, bytes_with, IsOfColumns, MakesPlaces, Joins}
 use Rattle.cas_memtable.specs.declared.memtable.MemPart.{MemPart}
 use Rattle.cas_memtable.specs.Kept.{atoms_at, atoms_under, bytes_of, StandIn, StandInEach, with_one, begun, all_of}
@@ -333,3 +333,20 @@ all_joined order ms m w wss each =
 -- with a memtable more
 pub all_begun : (wss : List (List Mutation)) → all_of (begun wss) ≡ all_of wss
 all_begun wss = all_last wss [] ∙ append-nil (all_of wss)
+
+-- ---- a mutation that was joined at once, or for which place was made
+
+module _ {E : Type 0} (w : Mutation) (m n : MemPart) where
+  pub inserted_keeps : (r : Result (Unit {0}) E) (order : List Ordered) (ms : List MemPart) (wss : List (List Mutation)) → OnOk r (Joins w m n) → OnErr r (MakesPlaces w m n)
+      → AreAtomsOf order w.atoms → StandInEach order (ms ++ m ∷ []) wss → StandInEach order (ms ++ n ∷ []) (if is_ok r then with_one w wss else wss)
+  inserted_keeps (Ok x) order ms wss joins makes are h = last_joined order w ms m n wss (λ ws stands. joined_stands order w m n ws stands are joins) h
+  inserted_keeps (Err e) order ms wss joins makes are h = last_kept order ms m n wss (λ ws stands. made_stands order w m n ws stands are makes) h
+
+  pub inserted_fits : (r : Result (Unit {0}) E) (columns : List Column) → OnOk r (Joins w m n) → OnErr r (MakesPlaces w m n) → AllFit columns w.atoms → IsOfColumns columns m
+      → IsOfColumns columns n
+  inserted_fits (Ok x) columns joins makes fit of = joins.fits columns of fit
+  inserted_fits (Err e) columns joins makes fit of = makes.fits columns of fit
+
+  pub inserted_bytes : (r : Result (Unit {0}) E) → OnOk r (Joins w m n) → OnErr r (MakesPlaces w m n) → n.bytes ≡ (if is_ok r then bytes_with m.bytes w else m.bytes)
+  inserted_bytes (Ok x) joins makes = joins.bytes
+  inserted_bytes (Err e) joins makes = makes.bytes

@@ -1,5 +1,6 @@
 -- What calls on the map of partitions do to what a memtable says.
 use Rattle.std.proofs.Common.{◌≡◌, ℕ, ℤ, Bool, true, false, cond, Option, None, Some, is_some, IsSome, List, ◌++◌, Result, Ok, Err, OnOk, IsErr, ◌⊎◌, inl, inr, refl, sym, ap, ◌∙◌, subst}
+use Rattle.std.specs.Prelude.{OnErr}
 use Rattle.std.proofs.lemmas.Bool.{true≢false}
 use Rattle.std.proofs.lemmas.Option.{none-some}
 use Rattle.std.proofs.lemmas.Cmp.{tied_itself}
@@ -17,11 +18,10 @@ use Rattle.cas_streams.specs.NoMore.{SaysNoMore}
 use Rattle.cas_streams.specs.Streams.{IsThere}
 use Rattle.cas_streams.proofs.NoMore.{no_more_itself}
 use Rattle.cas_partition.specs.Ends.{AreAtEnds}
-use Rattle.cas_partition.specs.Partitions.{partition_atoms, IsOf, HavePlaces, JoinsAll}
-use Rattle.cas_partition.specs.Partitions.{MakesPlaces as MakesIn, IsOfTable as IsPartitionOf}
+use Rattle.cas_partition.specs.Partitions.{partition_atoms, IsOf, HavePlaces, JoinsAll, MakesPlaces as MakesIn, IsOfTable as IsPartitionOf}
 use Rattle.cas_partition.specs.declared.partition.Partition.{Partition}
-use Rattle.cas_memtable.specs.Memtables.{held_at, atoms_held, atoms_of, changes_held, changes_of, least_held, least_with, bytes_with, IsOfTable, IsOfColumns, PlacesIn, HasPlaces, MakesPlaces, Joins}
-use Rattle.cas_memtable.specs.Inner.Steps.{IsBlank, StaysOrBlank, Puts, ReservesAt, ReservesIn, AppliesAt}
+use Rattle.cas_memtable.specs.Memtables.{held_at, atoms_held, atoms_of, changes_held, least_held, least_with, bytes_with, IsOfTable, IsOfColumns, PlacesIn, HasPlaces, MakesPlaces, Joins}
+use Rattle.cas_memtable.specs.Inner.Steps.{IsBlank, StaysOrBlank, Puts, ReservesAt, ReservesIn, AppliesAt, Inserts}
 use Rattle.cas_memtable.specs.declared.memtable.Held.{Held}
 use Rattle.cas_memtable.specs.declared.memtable.MemPart.{MemPart}
 
@@ -265,6 +265,44 @@ module _ {E : Type 0} (w : Mutation) (m n : MemPart) (result : Result (Unit {0})
     | inr made ↦ makes_all w m n did.middle result did.kept bytes (there_in made.0 made.1) (reserved_in made.0 made.1 made.2)
   ]
 
+-- in what was held at its key, or in a blank partition
+pub joins_from : (w : Mutation) (m n : MemPart) (h : Held) → StaysOrBlank (held_at m w.key) (Some h) → AppliesAt w.key w.atoms h (held_at m) (held_at n) → n.bytes ≡ bytes_with m.bytes w
+    → Joins w m n
+joins_from w m n h kept r bytes =
+    let o : Option Held = held_at m w.key in
+    let now : held_at n w.key ≡ Some r.held = put_there w.key r.held (held_at m) (held_at n) r.puts in
+    let is : partition_atoms h.partition ≡ atoms_of m w.key = stays_atoms o (Some h) kept in
+    let of_h : (order : List Ordered) → IsOfTable order m → IsOf order h.partition =
+    λ order of. stays_fact (IsOf order) (λ b blank. blank.of order) o (Some h) kept (of w.key) h refl in
+    let table_h : (columns : List Column) → IsOfColumns columns m → IsPartitionOf columns h.partition =
+    λ columns t. stays_fact (IsPartitionOf columns) (λ b blank. blank.table columns) o (Some h) kept (t w.key) h refl in
+    record {
+      joined = λ order of atoms.
+          subst (λ B. Same (atoms_of n w.key) (B ++ w.atoms)) is
+          (subst (λ A. Same A (partition_atoms h.partition ++ w.atoms)) (sym (ap atoms_held now)) (r.joins.joined order (of_h order of) atoms));
+      no_more = λ order of atoms.
+          subst (λ B. SaysNoMore (atoms_of n w.key) (B ++ w.atoms)) is
+          (subst (λ A. SaysNoMore A (partition_atoms h.partition ++ w.atoms)) (sym (ap atoms_held now)) (r.joins.no_more order (of_h order of) atoms));
+      some = λ order of atoms there.
+          subst IsThere (sym (ap atoms_held now)) (r.joins.some order (of_h order of) atoms (subst (λ B. IsThere (B ++ w.atoms)) (sym is) there));
+      ends = λ order of atoms ws moves.
+          subst (λ k. AreAtEnds (ws ++ w.atoms) (changes_held k)) (sym now) (r.joins.ends order (of_h order of) atoms ws (stays_ends ws o (Some h) kept moves));
+      of = λ order of atoms q g e. elim (at_key w.key q r.held (held_at m) (held_at n) r.puts) [
+        | inl hit ↦ subst (λ k. IsOf order k.partition) (ap (λ k. unwrap_or k g) (sym hit.1 ∙ e)) (r.joins.of order (of_h order of) atoms)
+        | inr miss ↦ of q g (sym miss.1 ∙ e)
+      ];
+      fits = λ columns t fit q g e. elim (at_key w.key q r.held (held_at m) (held_at n) r.puts) [
+        | inl hit ↦ subst (λ k. IsPartitionOf columns k.partition) (ap (λ k. unwrap_or k g) (sym hit.1 ∙ e)) (r.joins.fits columns (table_h columns t) fit)
+        | inr miss ↦ t q g (sym miss.1 ∙ e)
+      ];
+      least = ap least_held now ∙ r.least ∙ ap (λ l. least_with l w.atoms) (stays_least o (Some h) kept);
+      others = λ q apart. elim (at_key w.key q r.held (held_at m) (held_at n) r.puts) [
+        | inl hit ↦ absurd (apart (sym (equal_keys w.key q hit.0)))
+        | inr miss ↦ miss.1
+      ];
+      bytes = bytes;
+    }
+
 found_place : (o : Option Held) (atoms : List Atom) → PlacesIn o atoms → (h : Held) × (o ≡ Some h)
 found_place None atoms p = absurd p
 found_place (Some h) atoms p = (h, refl)
@@ -272,33 +310,36 @@ found_place (Some h) atoms p = (h, refl)
 pub joins_all : (w : Mutation) (m n : MemPart) → HasPlaces m w → ((h : Held) → held_at m w.key ≡ Some h → AppliesAt w.key w.atoms h (held_at m) (held_at n)) → n.bytes ≡ bytes_with m.bytes w → Joins w m n
 joins_all w m n places applied bytes =
     let (h, is) = found_place (held_at m w.key) w.atoms places in
-    let r : AppliesAt w.key w.atoms h (held_at m) (held_at n) = applied h is in
-    let now : held_at n w.key ≡ Some r.held = put_there w.key r.held (held_at m) (held_at n) r.puts in
-    record {
-      joined = λ order of atoms.
-          subst (λ B. Same (atoms_of n w.key) (B ++ w.atoms)) (sym (ap atoms_held is))
-          (subst (λ A. Same A (partition_atoms h.partition ++ w.atoms)) (sym (ap atoms_held now)) (r.joins.joined order (of w.key h is) atoms));
-      no_more = λ order of atoms.
-          subst (λ B. SaysNoMore (atoms_of n w.key) (B ++ w.atoms)) (sym (ap atoms_held is))
-          (subst (λ A. SaysNoMore A (partition_atoms h.partition ++ w.atoms)) (sym (ap atoms_held now)) (r.joins.no_more order (of w.key h is) atoms));
-      some = λ order of atoms there.
-          subst IsThere (sym (ap atoms_held now))
-          (r.joins.some order (of w.key h is) atoms (subst (λ B. IsThere (B ++ w.atoms)) (ap atoms_held is) there));
-      ends = λ order of atoms ws moves.
-          subst (λ o. AreAtEnds (ws ++ w.atoms) (changes_held o)) (sym now)
-          (r.joins.ends order (of w.key h is) atoms ws (subst (λ o. AreAtEnds ws (changes_held o)) is moves));
-      of = λ order of atoms q g e. elim (at_key w.key q r.held (held_at m) (held_at n) r.puts) [
-        | inl hit ↦ subst (λ k. IsOf order k.partition) (ap (λ o. unwrap_or o g) (sym hit.1 ∙ e)) (r.joins.of order (of w.key h is) atoms)
-        | inr miss ↦ of q g (sym miss.1 ∙ e)
-      ];
-      fits = λ columns t fit q g e. elim (at_key w.key q r.held (held_at m) (held_at n) r.puts) [
-        | inl hit ↦ subst (λ k. IsPartitionOf columns k.partition) (ap (λ o. unwrap_or o g) (sym hit.1 ∙ e)) (r.joins.fits columns (t w.key h is) fit)
-        | inr miss ↦ t q g (sym miss.1 ∙ e)
-      ];
-      least = ap least_held now ∙ r.least ∙ ap (λ o. least_with (least_held o) w.atoms) (sym is);
-      others = λ q apart. elim (at_key w.key q r.held (held_at m) (held_at n) r.puts) [
-        | inl hit ↦ absurd (apart (sym (equal_keys w.key q hit.0)))
-        | inr miss ↦ miss.1
-      ];
-      bytes = bytes;
-    }
+    joins_from w m n h (subst (λ o. StaysOrBlank o (Some h)) (sym is) refl) (applied h is) bytes
+
+-- ---- joined at once
+
+-- to what was held
+pub inserts_held : (key : List ℕ) (atoms : List Atom) (g : Held) (p : Partition) (least : Option ℤ) (before after : Look) → Some g ≡ before key
+    → Puts key (record { partition = p; least = least }) before after → least ≡ least_with g.least atoms → JoinsAll atoms g.partition p → (h : Held) × StaysOrBlank (before key) (Some h) × AppliesAt key atoms h before after
+inserts_held key atoms g p least before after found puts lessened joins =
+    (g, subst (λ o. StaysOrBlank o (Some g)) found refl, applies key atoms g g p least before after (sym found) found puts lessened joins)
+
+-- to a blank partition
+pub inserts_new : (key : List ℕ) (atoms : List Atom) (b p : Partition) (least : Option ℤ) (before after : Look) → before key ≡ None
+    → IsBlank (record { partition = b; least = None }) → Puts key (record { partition = p; least = least }) before after → least ≡ least_with None atoms → JoinsAll atoms b p
+    → (h : Held) × StaysOrBlank (before key) (Some h) × AppliesAt key atoms h before after
+inserts_new key atoms b p least before after none blank puts lessened joins =
+    let first : Held = record { partition = b; least = None } in (
+      first,
+      subst (λ o. StaysOrBlank o (Some first)) (sym none) (inr (first, refl, blank)),
+      record { held = record { partition = p; least = least }; puts = puts; least = lessened; joins = joins },
+    )
+
+-- or not at all
+pub not_inserted : {E : Type 0} (key : List ℕ) (atoms : List Atom) (before after : Look) (r : Result (Unit {0}) E) → IsErr r → ReservesIn key atoms before after r → Inserts key atoms before after r
+not_inserted key atoms before after (Ok x) fails did = absurd (true≢false (sym fails))
+not_inserted key atoms before after (Err e) fails did = did
+
+pub not_placed : {E : Type 0} (r : Result (Unit {0}) E) (Q : Type 0) → IsErr r → OnOk r Q
+not_placed (Ok x) Q fails = absurd (true≢false (sym fails))
+not_placed (Err e) Q fails = tt
+
+pub on_err : {E : Type 0} (r : Result (Unit {0}) E) (Q : Type 0) → Q → OnErr r Q
+on_err (Ok x) Q q = tt
+on_err (Err e) Q q = q

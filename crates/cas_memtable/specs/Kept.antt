@@ -26,8 +26,7 @@ use Rattle.cas_streams.specs.declared.fragment.Fragment.{Fragment}
 use Rattle.cas_partition.specs.Partitions.{AllFit, AreAtCuts}
 use Rattle.cas_partition.specs.Ends.{AreAtEnds}
 use Rattle.cas_partition.specs.Slices.{IsAll}
-use Rattle.cas_memtable.specs.Memtables.{atoms_of, changes_of, is_above, least_of, least_with, bytes_with, IsOfColumns}
-use Rattle.cas_memtable.specs.Memtables.{IsOfTable as IsOrderedBy}
+use Rattle.cas_memtable.specs.Memtables.{atoms_of, changes_of, is_above, least_of, least_with, bytes_with, IsOfColumns, IsOfTable as IsOrderedBy}
 use Rattle.cas_memtable.specs.declared.memtable.MemPart.{MemPart}
 use Rattle.cas_memtable.specs.declared.parts.Parts.{Parts}
 

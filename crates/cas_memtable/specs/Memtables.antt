@@ -19,8 +19,7 @@ use Rattle.cas_streams.specs.Streams.{IsThere}
 use Rattle.cas_streams.specs.declared.fragment.Fragment.{Fragment}
 use Rattle.cas_partition.specs.Ends.{AreAtEnds}
 use Rattle.cas_partition.specs.Slices.{Shows}
-use Rattle.cas_partition.specs.Partitions.{partition_atoms, IsOf, AreAtomsOf, AllFit, HavePlaces}
-use Rattle.cas_partition.specs.Partitions.{IsOfTable as IsPartitionOf}
+use Rattle.cas_partition.specs.Partitions.{partition_atoms, IsOf, AreAtomsOf, AllFit, HavePlaces, IsOfTable as IsPartitionOf}
 use Rattle.cas_memtable.specs.declared.memtable.Held.{Held}
 use Rattle.cas_memtable.specs.declared.memtable.MemPart.{MemPart}
 

@@ -1,6 +1,6 @@
 //! The partitions of a table in memory.
 
-ghost use Rattle.std.specs.Prelude.{◌≡◌, ℕ, Some, None, List as ListOf, IfOk, OnOk};
+ghost use Rattle.std.specs.Prelude.{◌≡◌, ℕ, Some, None, List as ListOf, IfOk, OnOk, OnErr};
 ghost use Rattle.std.specs.Option.{option_copied};
 ghost use Rattle.std.specs.BTreeMap.{get};
 ghost use Rattle.std.specs.BTreeMap.Range.{is_from_start};
@@ -9,7 +9,7 @@ ghost use Rattle.cas_types.specs.Values.{bytes_cmp};
 ghost use Rattle.cas_atoms.specs.Coordinates.{atom_at};
 ghost use Rattle.cas_memtable.specs.Memtables.{held_at, least_of, earlier, least_with, bytes_with, PlacesIn, HasPlaces, MakesPlaces};
 ghost use Rattle.cas_memtable.specs.Memtables.{Joins, GivesPart, is_above, IsNextKey};
-ghost use Rattle.cas_memtable.specs.Inner.Steps.{ReservesIn, AppliesAt, first_key};
+ghost use Rattle.cas_memtable.specs.Inner.Steps.{ReservesIn, AppliesAt, Inserts, first_key};
 
 use cas_atoms::{Atom, Mutation, length};
 use cas_bounds::Slice;
@@ -131,6 +131,43 @@ fn apply_atoms(partitions: &mut BTreeMap<Bytes, Held>, key: &Bytes, atoms: List<
     }
 }
 
+// Joins atoms to a partition of the key, where there is none yet.
+fn insert_new(
+    partitions: &mut BTreeMap<Bytes, Held>,
+    alloc: Global,
+    key: Bytes,
+    atoms: List<Atom>,
+) -> Result<(), AllocError>
+    requires { get bytes_cmp partitions.old key ≡ None }
+    ensures { Inserts key atoms (get bytes_cmp partitions.old) (get bytes_cmp partitions.new) result }
+{
+    let mut partition = Partition::new(alloc);
+    let least = least_with(None, atoms.as_slice());
+    partition.insert_all(atoms)?;
+    partitions.insert(key, Held { partition, least })?;
+    Ok(())
+}
+
+// Joins atoms to the partition of the key, which is made if there is none yet.
+fn insert_atoms(
+    partitions: &mut BTreeMap<Bytes, Held>,
+    alloc: Global,
+    key: Bytes,
+    atoms: List<Atom>,
+) -> Result<(), AllocError>
+    ensures { Inserts key atoms (get bytes_cmp partitions.old) (get bytes_cmp partitions.new) result }
+{
+    match partitions.get_mut(&key) {
+        Some(held) => {
+            let least = least_with(held.least, atoms.as_slice());
+            held.partition.insert_all(atoms)?;
+            held.least = least;
+            Ok(())
+        }
+        None => insert_new(partitions, alloc, key, atoms),
+    }
+}
+
 // What begins right behind the key, or at the first one of all.
 fn behind(key: Option<&Bytes>) -> Bound<&Bytes>
     ensures { (q : ListOf ℕ) → is_from_start bytes_cmp (bound_map (λ k. k.now) result) q ≡ is_above (option_copied key.entry) q }
@@ -189,6 +226,22 @@ impl MemPart {
         self.bytes = bytes_with(self.bytes, &mutation);
         let key = mutation.key;
         apply_atoms(&mut self.partitions, &key, mutation.atoms);
+    }
+
+    /// Makes place for a mutation and joins it. After an error the partitions say what they said.
+    pub fn insert(&mut self, mutation: Mutation) -> Result<(), AllocError>
+        ensures joins { OnOk result (Joins mutation self.old self.new) }
+        ensures makes { OnErr result (MakesPlaces mutation self.old self.new) }
+    {
+        let bytes = bytes_with(self.bytes, &mutation);
+        insert_atoms(
+            &mut self.partitions,
+            self.alloc,
+            mutation.key,
+            mutation.atoms,
+        )?;
+        self.bytes = bytes;
+        Ok(())
     }
 
     /// The least timestamp of all atoms that were joined to the partition of the key, whatever won

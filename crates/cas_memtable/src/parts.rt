@@ -88,6 +88,16 @@ impl Parts {
         self.active.apply(mutation);
     }
 
+    /// Makes place for a mutation and joins it. After an error all is as before.
+    pub fn insert(&mut self, mutation: Mutation) -> Result<(), AllocError>
+        ensures keeps { (order : ListOf Order) (wss : ListOf (ListOf Wrote)) → Keeps order self.old wss → AreAtomsOf order mutation.atoms
+            → Keeps order self.new (if is_ok result then with_one mutation wss else wss) }
+        ensures columns { (columns : ListOf ColumnOf) → IsOfTable columns self.old → AllFit columns mutation.atoms → IsOfTable columns self.new }
+        ensures bytes { self.new.active.bytes ≡ (if is_ok result then bytes_with self.old.active.bytes mutation else self.old.active.bytes) }
+    {
+        self.active.insert(mutation)
+    }
+
     /// The sources of a partition in a slice, one of each memtable that has something under the key.
     /// Their merge is the partition.
     pub fn sources<'a>(

@@ -30,8 +30,7 @@ use Rattle.cas_cell.specs.declared.cell.Cell.TheVariants as cell
 use Rattle.cas_cell.specs.Cells.{cell_value}
 use Rattle.cas_atoms.specs.declared.atom.ColumnRef.{ColumnRef}
 use Rattle.cas_atoms.specs.declared.atom.Atom.{Atom}
-use Rattle.cas_atoms.specs.declared.atom.Atom.TheVariants.{PartitionDeletion, RangeDeletion, RowDeletion, CollectionDeletion}
-use Rattle.cas_atoms.specs.declared.atom.Atom.TheVariants.{Live, Write, StaticWrite, StaticCollectionDeletion}
+use Rattle.cas_atoms.specs.declared.atom.Atom.TheVariants.{PartitionDeletion, RangeDeletion, RowDeletion, CollectionDeletion, Live, Write, StaticWrite, StaticCollectionDeletion}
 use Rattle.cas_atoms.specs.Fits.{FitsDeletion, FitsLive, FitsValues, FitsClustering, FitsCut, FitsRange, FitsPath, FitsCell, FitsWrite, FitsEmptied, Names, is_cell_value}
 use Rattle.cas_records.specs.declared.columns.Wanted.{Wanted}
 use Rattle.cas_records.specs.declared.columns.Wanted.TheVariants.{Regular, Static, RegularCollection, StaticCollection}

@@ -30,8 +30,7 @@ use Rattle.cas_cell.specs.declared.cell.Cell.TheVariants as cell
 use Rattle.cas_cell.specs.Cells.{cell_value}
 use Rattle.cas_atoms.specs.declared.atom.ColumnRef.{ColumnRef}
 use Rattle.cas_atoms.specs.declared.atom.Atom.{Atom}
-use Rattle.cas_atoms.specs.declared.atom.Atom.TheVariants.{PartitionDeletion, RangeDeletion, RowDeletion, CollectionDeletion}
-use Rattle.cas_atoms.specs.declared.atom.Atom.TheVariants.{Live, Write, StaticWrite, StaticCollectionDeletion}
+use Rattle.cas_atoms.specs.declared.atom.Atom.TheVariants.{PartitionDeletion, RangeDeletion, RowDeletion, CollectionDeletion, Live, Write, StaticWrite, StaticCollectionDeletion}
 use Rattle.cas_atoms.specs.declared.atom.Mutation.{Mutation}
 use Rattle.cas_atoms.specs.Fits.{Fits, FitsStamp, FitsKey, FitsMutation}
 use Rattle.cas_atoms.specs.LogLength.{short_length, deletion_length, cell_length, atom_length, record_length}

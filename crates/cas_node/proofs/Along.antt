@@ -21,9 +21,8 @@ use Rattle.cas_sessions.specs.declared.answer.Fault.TheVariants as fault
 use Rattle.cas_sessions.specs.Calls.{IsSpelled}
 use Rattle.cas_sessions.specs.Dropping.{DropsSegments}
 use Rattle.cas_sessions.specs.Filling.{FlushesIn}
-use Rattle.cas_lasting.specs.Flushed.{filled_with, rest_with}
+use Rattle.cas_lasting.specs.Flushed.{filled_with, rest_with, changes_by, without_begun, without_flushed}
 use Rattle.cas_sessions.specs.Flushes.{FlushesNamed, FlushesTable}
-use Rattle.cas_lasting.specs.Flushed.{changes_by, without_begun, without_flushed}
 use Rattle.cas_lasting.specs.History.{History, DiskState, Does}
 use Rattle.cas_sessions.specs.Verifying.{VerifiesNamed}
 use Rattle.cas_sessions.proofs.Answering.{says_spelled}

@@ -12,8 +12,7 @@ use Rattle.cas_shard.specs.Shards.{ShardHistory}
 use Rattle.cas_sstread.specs.Loading.{Held}
 use Rattle.cas_view.specs.Views.{File}
 use Rattle.cas_sessions.specs.Filling.{FlushesIn, SaysNone, listed_of}
-use Rattle.cas_lasting.specs.Flushed.{filled_with, rest_with}
-use Rattle.cas_lasting.specs.Flushed.{AscendTo, Flushed, Grows, ListsOne, SaySomething, change_of, changes_by, numbers_added, numbers_in, without_begun, without_flushed}
+use Rattle.cas_lasting.specs.Flushed.{filled_with, rest_with, AscendTo, Flushed, Grows, ListsOne, SaySomething, change_of, changes_by, numbers_added, numbers_in, without_begun, without_flushed}
 use Rattle.cas_sessions.specs.Flushes.{EndsSo}
 use Rattle.cas_lasting.specs.History.{History, DiskState, shard_at}
 use Rattle.cas_lasting.specs.Status.{file_numbers}

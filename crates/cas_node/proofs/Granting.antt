@@ -36,20 +36,20 @@ use Rattle.cas_node.proofs.WellDisk.{first_stays, rest_stays, table_flushed}
 abbrev with_more : Cause → List Upshot → Cause
 with_more c os = fold (λ b o. worse b (upshot_cause o)) c os
 
-worse_want : (c : Cause) → IsToldSo c → worse cause.Mem c ≡ cause.Mem
-worse_want cause.Good x = refl
-worse_want cause.Refused x = refl
-worse_want cause.Mem x = refl
-worse_want cause.Write x = absurd x
-worse_want cause.Words x = absurd x
-worse_want cause.Read x = absurd x
-worse_want cause.Disk x = absurd x
-worse_want (cause.Bad name at) x = refl
-worse_want (cause.TooLong taken) x = absurd x
+want_first : (c : Cause) → IsToldSo c → (worse c cause.Mem ≡ cause.Mem) × (worse cause.Mem c ≡ cause.Mem)
+want_first cause.Good x = (refl, refl)
+want_first cause.Refused x = (refl, refl)
+want_first cause.Mem x = (refl, refl)
+want_first cause.Write x = absurd x
+want_first cause.Words x = absurd x
+want_first cause.Read x = absurd x
+want_first cause.Disk x = absurd x
+want_first (cause.Bad name at) x = (refl, refl)
+want_first (cause.TooLong taken) x = absurd x
 
 want_stays : (os : List Upshot) → with_more cause.Mem os ≡ cause.Mem
 want_stays [] = refl
-want_stays (o ∷ os) = ap (λ c. with_more c os) (worse_want (upshot_cause o) (upshot_told o)) ∙ want_stays os
+want_stays (o ∷ os) = ap (λ c. with_more c os) ((want_first (upshot_cause o) (upshot_told o)).1) ∙ want_stays os
 
 then_good : (c : Cause) (os : List Upshot) → GoodOrMem c → GoodOrMem (worst os) → GoodOrMem (with_more (worse cause.Good c) os)
 then_good c os (inl e) rest = subst (λ k. GoodOrMem (with_more (worse cause.Good k) os)) (sym e) rest
@@ -77,23 +77,12 @@ starved_wants o is = by o.reply o.want is (upshot_told (record { reply = o.reply
     by_reply None e = absurd (true≢false (sym e))
     by_reply (Some r) e = reply_want r e
 
-    wants : (c : Cause) → IsToldSo c → worse c cause.Mem ≡ cause.Mem
-    wants cause.Good x = refl
-    wants cause.Refused x = refl
-    wants cause.Mem x = refl
-    wants cause.Write x = absurd x
-    wants cause.Words x = absurd x
-    wants cause.Read x = absurd x
-    wants cause.Disk x = absurd x
-    wants (cause.Bad name at) x = refl
-    wants (cause.TooLong taken) x = absurd x
-
     plain : (b : Bool) → b || false ≡ true → b ≡ true
     plain true e = refl
     plain false e = e
 
     by : (r : Option Reply) (w : Bool) → says_want r || w ≡ true → IsToldSo (reply_cause r) → (if w then worse (reply_cause r) cause.Mem else reply_cause r) ≡ cause.Mem
-    by r true e told = wants (reply_cause r) told
+    by r true e told = (want_first (reply_cause r) told).0
     by r false e told = by_reply r (plain (says_want r) e)
 
 -- ---- a line

@@ -40,9 +40,8 @@ use Rattle.cas_words.specs.declared.words.ClockKind.TheVariants as clock
 use Rattle.cql_parse.specs.declared.syntax.TableName.{TableName}
 use Rattle.cas_sessions.specs.declared.answer.Fault.{Fault}
 use Rattle.cas_sessions.specs.Filling.{FlushesFull, FlushesIf, FlushesIn, SaysNone, is_full}
-use Rattle.cas_lasting.specs.Flushed.{filled_with, rest_with}
+use Rattle.cas_lasting.specs.Flushed.{filled_with, rest_with, SaySomething, change_of, changes_by}
 use Rattle.cas_sessions.specs.Flushes.{FlushesNamed, FlushesTable}
-use Rattle.cas_lasting.specs.Flushed.{SaySomething, change_of, changes_by}
 use Rattle.cas_lasting.specs.History.{History, DiskState, Does, Takes, after_write, entry_of, shard_at, tells_want}
 use Rattle.cas_lasting.specs.Laws.{LittleIsNeverTooMuch}
 use Rattle.cas_lasting.specs.Starts.{start}

@@ -49,10 +49,8 @@ use Rattle.cas_node.specs.Lines.{NoneFlushes, Runs, Tells}
 use Rattle.cas_sstread.specs.Loading.{Held}
 use Rattle.cas_view.specs.Views.{File}
 use Rattle.cas_lasting.specs.Starts.{AreExplained, AreItsFiles, Begins, start, BeginsAs, IsInMemory, IsOpenedAs, IsStarted}
-use Rattle.cas_node.specs.Ran.{AllWell, AreGood, Ended, GoodOrMem, IfBad, IfUnread, IsBadForOne, IsCalm, IsGranted, IsKnown, IsNotRun, Outside, Ran, RanAll, RanFrom, RanOn}
-use Rattle.cas_node.specs.Ran.{Stop, WriteRose}
+use Rattle.cas_node.specs.Ran.{AllWell, AreGood, Ended, GoodOrMem, IfBad, IfUnread, IsBadForOne, IsCalm, IsGranted, IsKnown, IsNotRun, Outside, Ran, RanAll, RanFrom, RanOn, Stop, WriteRose, at_the_end, at_the_sink, for_memory, has_risen, reply_cause, upshot_cause, verdicts_cause, weight, with_faults, worse, worst}
 use Rattle.cas_node.proofs.Standing.{all_stand, standing_good}
-use Rattle.cas_node.specs.Ran.{at_the_end, at_the_sink, for_memory, has_risen, reply_cause, upshot_cause, verdicts_cause, weight, with_faults, worse, worst}
 use Rattle.cas_node.specs.Inner.Serving.{EndsServed, IsKnownIn, IsKnownOn, ListsIf, MovesIf, Served, Serves}
 use Rattle.cas_lasting.specs.Entered.{IsLeft}
 use Rattle.cas_lasting.specs.Listing.{SameListed}

@@ -77,13 +77,17 @@ FlushFinds Finds kind Gives h text =
     × ((s : Statement) → Says text (line.Statement s) → (answer : Reply) (after : History)
     → Does kind Gives h (meaning h.limits.shards h.tables s) answer after → FindsBehind Finds (meaning h.limits.shards h.tables s) answer after)
 
--- each flush of these lines finds its table so, whatever comes of those before it but a failure or want of memory; of lines that flush nothing that is so
-abbrev pub FlushesFind : (History → TableSchema → Type 0) → ClockKind → (ℤ → Type 0) → History → List (List ℕ) → Type 0
-FlushesFind Finds kind Gives h [] = Unit {0}
-FlushesFind Finds kind Gives h (l ∷ ls) =
-    FlushFinds Finds kind Gives h l
+-- this holds of each of these lines, in the store that it comes to, whatever comes of those before it but a failure or want of memory
+abbrev pub AlongLines : (History → List ℕ → Type 0) → ClockKind → (ℤ → Type 0) → History → List (List ℕ) → Type 0
+AlongLines Holds kind Gives h [] = Unit {0}
+AlongLines Holds kind Gives h (l ∷ ls) =
+    Holds h l
     × ((o : Upshot) (after : History) → Answers kind Gives h l o after → is_starved o ≡ false → StaysWell h.disk after.disk
-    → FlushesFind Finds kind Gives after ls)
+    → AlongLines Holds kind Gives after ls)
+
+-- each flush of these lines finds its table so; of lines that flush nothing that is so
+abbrev pub FlushesFind : (History → TableSchema → Type 0) → ClockKind → (ℤ → Type 0) → History → List (List ℕ) → Type 0
+FlushesFind Finds kind Gives h lines = AlongLines (FlushFinds Finds kind Gives) kind Gives h lines
 
 -- each flush of these lines fits
 abbrev pub FlushesFit : ClockKind → (ℤ → Type 0) → History → List (List ℕ) → Type 0
@@ -235,13 +239,9 @@ abbrev pub LineIsGranted : ClockKind → (ℤ → Type 0) → History → Line �
 LineIsGranted kind Gives h (line.Flush name) = IsSome (table_named h.tables name)
 LineIsGranted kind Gives h l = (o : Upshot) (after : History) → Answered kind Gives h l o after → StaysWell h.disk after.disk → GoodOrMem (upshot_cause o)
 
--- so is each of these lines, whatever comes of those before it but a failure or want of memory
+-- so is each of these lines
 abbrev pub LinesAreGranted : ClockKind → (ℤ → Type 0) → History → List (List ℕ) → Type 0
-LinesAreGranted kind Gives h [] = Unit {0}
-LinesAreGranted kind Gives h (l ∷ ls) =
-    ((said : Line) → Says l said → LineIsGranted kind Gives h said)
-    × ((o : Upshot) (after : History) → Answers kind Gives h l o after → is_starved o ≡ false → StaysWell h.disk after.disk
-    → LinesAreGranted kind Gives after ls)
+LinesAreGranted kind Gives h lines = AlongLines (λ k text. (said : Line) → Says text said → LineIsGranted kind Gives k said) kind Gives h lines
 
 -- if what they flush fits, a run of them ends well through which the disk stays well, unless memory runs out: no flush is refused
 abbrev pub FlushesEndWell : (ℤ → Type 0) → Type 0

@@ -246,3 +246,24 @@ first_there run later p there = (parted (HasPlace p) run later there).0
 pub none_left : (all rest : List Atom) (p q : Partition) → length rest < 1 → Making all rest p q → Making all [] p q
 none_left all [] p q few m = m
 none_left all (a ∷ rest) p q few m = absurd (omega arith)
+
+-- ---- both
+
+there_kept : (P Q others : List Atom) → (IsThere P → IsThere Q) → IsThere (P ++ others) → IsThere (Q ++ others)
+there_kept P Q [] h is = subst IsThere (sym (append-nil Q)) (h (subst IsThere (append-nil P) is))
+there_kept P Q (a ∷ others) h is = there_behind Q a others
+
+-- place was made for the atoms, and then they were joined
+pub made_then_joined : (all : List Atom) (p q r : Partition) → MakesPlaces all p q → JoinsAll all q r → JoinsAll all p r
+made_then_joined all p q r made joins = record {
+  joined = λ order of atoms.
+      same_then (joins.joined order (made.of order of atoms) atoms) (join_laws.kept (partition_atoms q) (partition_atoms p) all (made.same order of atoms));
+  no_more = λ order of atoms.
+      no_more_then (partition_atoms r) (partition_atoms q ++ all) (partition_atoms p ++ all) (joins.no_more order (made.of order of atoms) atoms)
+      (no_more_kept (partition_atoms q) (partition_atoms p) all (made.no_more order of atoms));
+  some = λ order of atoms is. joins.some order (made.of order of atoms) atoms (there_kept (partition_atoms p) (partition_atoms q) all made.some is);
+  ends = λ order of atoms ws moves. joins.ends order (made.of order of atoms) atoms ws (made.ends ws moves);
+  of = λ order of atoms. joins.of order (made.of order of atoms) atoms;
+  fits = λ columns t all_fit. joins.fits columns (made.fits columns t all_fit) all_fit;
+  others = λ b h. joins.others b (made.others b h);
+}

@@ -12,14 +12,12 @@ use Rattle.std.specs.Ordering.{is_eq}
 use Rattle.cas_types.specs.declared.tag.TypeTag.{TypeTag}
 use Rattle.cas_bounds.specs.declared.map_key.MapKey.{MapKey}
 use Rattle.cas_atoms.specs.declared.atom.Atom.{Atom}
-use Rattle.cas_atoms.specs.declared.atom.Atom.TheVariants.{PartitionDeletion, RangeDeletion, RowDeletion, CollectionDeletion}
-use Rattle.cas_atoms.specs.declared.atom.Atom.TheVariants.{Live, Write, StaticWrite, StaticCollectionDeletion}
+use Rattle.cas_atoms.specs.declared.atom.Atom.TheVariants.{PartitionDeletion, RangeDeletion, RowDeletion, CollectionDeletion, Live, Write, StaticWrite, StaticCollectionDeletion}
 use Rattle.cas_partition.specs.Spots.{row_cmp, place_cmp, spot_cmp, blank, joined_content}
 use Rattle.cas_partition.specs.Placed.{wanted, given}
 use Rattle.cas_partition.specs.Partitions.{with_spot}
 use Rattle.cas_partition.specs.Inner.Rows.{Said, RowsOf, spot_in, flat, AreInOrder, AreRows, place_of, body_of, with_place, joined_place}
-use Rattle.cas_partition.specs.Inner.Runs.{room_row, room_place, room_tag, IsInRow, with_places, with_room, with_rooms, PartlyMade, RowPartlyMade}
-use Rattle.cas_partition.specs.Inner.Runs.{joined_by, joined_places, joined_spot, joined_at, joined_spots, JoinsRun}
+use Rattle.cas_partition.specs.Inner.Runs.{room_row, room_place, room_tag, IsInRow, with_places, with_room, with_rooms, IsPart, PartlyMade, RowPartlyMade, RowHasSome, joined_by, joined_places, joined_spot, joined_at, joined_spots, JoinsRun}
 use Rattle.cas_partition.specs.declared.spot.Place.{Place}
 use Rattle.cas_partition.specs.declared.spot.Spot.{Spot}
 use Rattle.cas_partition.specs.declared.spot.Content.{Content}
@@ -169,6 +167,39 @@ joined_rows s c atoms rows new are e =
     let keys : keys_of (joined_places atoms (joined_place (place_of s) c b)) ≡ keys_of b = joined_keys atoms (joined_place (place_of s) c b) ∙ place_keys (gives.At s c) b in
     subst AreRows (sym e) (set_keeps_keys s.row (joined_places atoms (joined_place (place_of s) c b)) rows are (subst (IsStrictlySortedBy place_cmp) (sym keys) (sorted_body s.row rows are)))
 
+-- ---- both in one row
+
+pub all_inserted : (k : Option MapKey) (atoms : List Atom) (rows new : RowsOf) → AreRows rows → AllByRecursion (IsInRow k) atoms
+    → new ≡ insert_entry row_cmp rows k (joined_places atoms (with_places atoms (body_of k rows))) → flat new ≡ joined_spots atoms (with_rooms atoms (flat rows))
+all_inserted k atoms rows new are all e =
+    ap flat e ∙ sym (rooms_joined k rows are.sorted atoms (with_places atoms (body_of k rows)) all)
+    ∙ ap (joined_spots atoms) (sym (rooms_made k rows are.sorted atoms (body_of k rows) all) ∙ ap (with_rooms atoms) (as_it_is k rows are.sorted))
+
+pub some_inserted : (k : Option MapKey) (atoms : List Atom) (rows new : RowsOf) → AreRows rows → AllByRecursion (IsInRow k) atoms → RowHasSome atoms k rows new
+    → IsPart atoms (λ first. flat new ≡ with_rooms first (flat rows))
+some_inserted k atoms rows new are all (inl same) = record { first = []; later = atoms; are = refl; is = ap flat same }
+some_inserted k atoms rows new are all (inr part) = record {
+  first = part.first;
+  later = part.later;
+  are = part.are;
+  is =
+      ap flat part.is
+      ∙ sym (rooms_made k rows are.sorted part.first (body_of k rows) (first_of k rows are.sorted part.first part.later (subst (AllByRecursion (IsInRow k)) part.are all)))
+      ∙ ap (with_rooms part.first) (as_it_is k rows are.sorted);
+}
+
+pub inserted_rows : (k : Option MapKey) (atoms : List Atom) (rows new : RowsOf) → AreRows rows
+    → new ≡ insert_entry row_cmp rows k (joined_places atoms (with_places atoms (body_of k rows))) → AreRows new
+inserted_rows k atoms rows new are e =
+    let b : Said = with_places atoms (body_of k rows) in
+    subst AreRows (sym e)
+    (rows_put k (joined_places atoms b) rows (subst (IsStrictlySortedBy place_cmp) (sym (joined_keys atoms b)) (places_sorted atoms (body_of k rows) (sorted_body k rows are))) are)
+
+pub some_rows : (k : Option MapKey) (atoms : List Atom) (rows new : RowsOf) → AreRows rows → RowHasSome atoms k rows new → AreRows new
+some_rows k atoms rows new are (inl same) = subst AreRows (sym same) are
+some_rows k atoms rows new are (inr part) =
+    subst AreRows (sym part.is) (rows_put k (with_places part.first (body_of k rows)) rows (places_sorted part.first (body_of k rows) (sorted_body k rows are)) are)
+
 -- ---- as the code goes
 
 pub rest_is : {X : Type 0} (xs : List X) (d : X) → 1 ≤ length xs → xs ≡ get_or xs 0 d ∷ take (length xs - 1) (drop 1 xs)
@@ -197,9 +228,6 @@ one_placed others rest a d p tag start now new few item so_far place its_tag e =
 pub all_placed : (others rest : List Atom) (start now : Said) → length rest < 1 → Placing others rest start now → now ≡ with_places others start
 all_placed others [] start now none so_far = so_far.is ∙ ap (λ l. with_places l start) (sym (so_far.are ∙ append-nil so_far.first))
 all_placed others (a ∷ rest) start now none so_far = absurd (omega arith)
-
-pub part_placed : (others rest : List Atom) (old start now : Said) → Placing others rest start now → PartlyMade with_places others old start now
-part_placed others rest old start now so_far = inr (record { first = so_far.first; later = rest; are = so_far.are; is = so_far.is })
 
 -- so many of these are of the row
 pub record Counting (row : Option MapKey) (atoms rest : List Atom) (count : ℕ) : Type 0 where

@@ -8,7 +8,7 @@ use Rattle.cas_atoms.specs.declared.atom.Atom.{Atom}
 use Rattle.cas_partition.specs.Placed.{wanted, given}
 use Rattle.cas_partition.specs.Partitions.{HasPlace, HavePlaces, with_spot, MakesPlaces, JoinsAll}
 use Rattle.cas_partition.specs.Inner.Made.{MadePlaces}
-use Rattle.cas_partition.specs.Inner.Runs.{room_row, IsInRow, with_room, with_rooms, PartlyMade, joined_spot, joined_at, joined_spots}
+use Rattle.cas_partition.specs.Inner.Runs.{room_row, IsInRow, with_room, with_rooms, IsPart, PartlyMade, joined_spot, joined_at, joined_spots}
 use Rattle.cas_partition.specs.declared.spot.Spot.{Spot}
 use Rattle.cas_partition.specs.declared.spot.Content.{Content}
 use Rattle.cas_partition.specs.declared.spot.Room.{Room}
@@ -19,7 +19,7 @@ use Rattle.cas_partition.specs.declared.partition.Partition.{Partition}
 use Rattle.cas_partition.proofs.OneAtom.{MakesPlace, Joins}
 use Rattle.cas_partition.proofs.RunLists.{given_row, same_row, spot_set}
 use Rattle.cas_partition.proofs.Taking.{with_spots, one_spot, spot_there, same_spots, spot_joins}
-use Rattle.cas_partition.proofs.Lists.{Making, making, one_made, all_made, all_there, first_made, made_more, Joining, joining, one_joined, all_joined}
+use Rattle.cas_partition.proofs.Lists.{Making, making, one_made, all_made, all_there, first_made, made_more, Joining, joining, one_joined, all_joined, made_then_joined}
 
 -- ---- places
 
@@ -83,3 +83,27 @@ run_is_joined a s c run p es g of e there =
     subst (λ l. JoinsAll (a ∷ run) p (with_spots p l)) (sym e)
     (all_joined (a ∷ run) [] p (with_spots q (joined_spots run q.spots)) refl
     (additions_join s.row (a ∷ run) run p q of (one_joined (a ∷ run) (a ∷ run) a run p p q refl (joining (a ∷ run) (a ∷ run) p refl there) one)))
+
+-- ---- both
+
+run_made : (k : Option MapKey) (run : List Atom) (p : Partition) → AllByRecursion (IsInRow k) run → MadePlaces run p (with_spots p (with_rooms run p.spots))
+run_made k run p of =
+    let q : Partition = with_spots p (with_rooms run p.spots) in
+    let m : Making run [] p q = rooms_made k run run p p of (making run p) in (all_made run p q m, all_there run p q m)
+
+pub run_inserted : (k : Option MapKey) (run : List Atom) (p : Partition) (es : List (Spot × Content)) → AllByRecursion (IsInRow k) run
+    → es ≡ joined_spots run (with_rooms run p.spots) → JoinsAll run p (with_spots p es)
+run_inserted k run p es of e =
+    let q : Partition = with_spots p (with_rooms run p.spots) in
+    let r : Partition = with_spots q (joined_spots run q.spots) in
+    let (made, there) = run_made k run p of in
+    subst (λ l. JoinsAll run p (with_spots p l)) (sym e)
+    (made_then_joined run p q r made (all_joined run [] q r refl (additions_join k run run q q of (joining run run q refl there))))
+
+pub some_made : (k : Option MapKey) (run : List Atom) (p : Partition) (es : List (Spot × Content)) → AllByRecursion (IsInRow k) run
+    → IsPart run (λ first. es ≡ with_rooms first p.spots) → MakesPlaces run p (with_spots p es)
+some_made k run p es of part =
+    let q : Partition = with_spots p (with_rooms part.first p.spots) in
+    subst (λ l. MakesPlaces l p (with_spots p es)) (sym part.are)
+    (subst (λ l. MakesPlaces (part.first ++ part.later) p (with_spots p l)) (sym part.is)
+    (made_more part.first part.later p q (run_made k part.first p (of_first k part.first part.later (subst (AllByRecursion (IsInRow k)) part.are of))).0))

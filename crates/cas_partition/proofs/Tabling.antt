@@ -15,8 +15,7 @@ use Rattle.cas_bounds.specs.declared.map_key.MapKey.{MapKey}
 use Rattle.cas_atoms.specs.Greatest.{greater}
 use Rattle.cas_atoms.specs.Fits.{Fits}
 use Rattle.cas_atoms.specs.declared.atom.Atom.{Atom}
-use Rattle.cas_atoms.specs.declared.atom.Atom.TheVariants.{PartitionDeletion, RangeDeletion, RowDeletion, CollectionDeletion}
-use Rattle.cas_atoms.specs.declared.atom.Atom.TheVariants.{Live, Write, StaticWrite, StaticCollectionDeletion}
+use Rattle.cas_atoms.specs.declared.atom.Atom.TheVariants.{PartitionDeletion, RangeDeletion, RowDeletion, CollectionDeletion, Live, Write, StaticWrite, StaticCollectionDeletion}
 use Rattle.cas_partition.specs.Spots.{spot_cmp, blank, joined_content}
 use Rattle.cas_partition.specs.Placed.{wanted, given}
 use Rattle.cas_partition.specs.Partitions.{IsAtomOf, AreAtomsOf, AllFit, IsPathOf, IsIn, AreIn, has_spot, with_spot}

@@ -100,6 +100,7 @@ abbrev pub IsIn : List Column → Option MapKey → Option ℕ → Option (List 
 IsIn columns row None path c = Unit {0}
 IsIn columns row (Some n) path c = IsColumnIn columns row n path c
 
+-- all of them are
 abbrev pub AreIn : List Column → List (Spot × Content) → Type 0
 AreIn columns es = AllByRecursion (λ e. IsIn columns e.0.row e.0.column e.0.path e.1) es
 

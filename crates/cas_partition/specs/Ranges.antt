@@ -42,10 +42,11 @@ with_cut c ms = if has_cut c ms then ms else inserted None c ms
 
 -- ---- in a slice
 
--- a cut stands above the low one; below the high one
+-- a cut stands above the low one
 abbrev pub is_above : Cut → Cut → Bool
 is_above lo c = is_lt (key_cmp (key_of lo) (key_of c))
 
+-- a cut stands below the high one, or at it
 abbrev pub is_below : Cut → Cut → Bool
 is_below hi c = not (is_le (key_cmp (key_of hi) (key_of c)))
 

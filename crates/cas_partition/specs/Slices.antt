@@ -55,12 +55,13 @@ pub record Shows (s : Slice) (p : Partition) (top : Option Deletion) (fs : List 
   pub cuts : (columns : List Column) → IsOfTable columns p → FitsCut (clustering_order columns) s.lo → FitsCut (clustering_order columns) s.hi
       → AreAtCuts columns (changes fs)
 
--- rows one after another: where the first of the later ones is the last of the earlier ones, both are put together
+-- rows that begin with this one, and later ones: where the first of the later ones is the last of the earlier ones, both are put together
 abbrev pub meet_from : Fragment → List Fragment → List Fragment → List Fragment
 meet_from f [] [] = f ∷ []
 meet_from f [] (g ∷ gs) = grouped_from f (g ∷ []) ++ gs
 meet_from f (h ∷ fs) gs = f ∷ meet_from h fs gs
 
+-- rows, and later ones, put together in the same way
 abbrev pub meet : List Fragment → List Fragment → List Fragment
 meet [] gs = gs
 meet (f ∷ fs) gs = meet_from f fs gs
@@ -70,10 +71,12 @@ pub data Halves : Type 0 where
   few : List Fragment → Halves
   both : Halves → Halves → Halves
 
+-- the pieces in halves, one after another
 abbrev pub pieces_in : Halves → List Fragment
 pieces_in (few fs) = fs
 pieces_in (both a b) = pieces_in a ++ pieces_in b
 
+-- the rows that the halves make: of a few pieces those that lie together, of two halves those of each, put together where they meet
 abbrev pub rows_by : Halves → List Fragment
 rows_by (few fs) = grouped None fs
 rows_by (both a b) = meet (rows_by a) (rows_by b)

@@ -54,6 +54,7 @@ joined_content a b = record {
 
 -- ---- as a piece of a stream
 
+-- the clustering of a row's key in the map
 abbrev pub clustering_of : MapKey → Clustering
 clustering_of k = record { values = k.values; order = k.order }
 

@@ -13,7 +13,7 @@ ghost use Rattle.cas_partition.specs.Inner.Made.{MadePlaces};
 ghost use Rattle.cas_partition.specs.Inner.Runs.{IsRun};
 
 use crate::ranges::Ranges;
-use crate::runs::{count_in, first_of};
+use crate::runs::{count_in, first_of, row_of_all};
 use crate::spot::{Addition, Room, given, wanted};
 use crate::spots::Spots;
 use cas_atoms::{Atom, greater_deletion};
@@ -133,6 +133,27 @@ impl Partition {
         let mut next = first_of(&mut rest);
         while let Some(atom) = next {
             next = self.apply_run(atom, &mut rest);
+        }
+    }
+
+    // Makes place for all of these atoms, whatever they are of, and then joins them.
+    fn insert_rows(&mut self, atoms: List<Atom>) -> Result<(), AllocError>
+        ensures joins { OnOk result (JoinsAll atoms self.old self.new) }
+        ensures makes { OnErr result (MakesPlaces atoms self.old self.new) }
+    {
+        self.reserve_all(atoms.as_slice())?;
+        self.apply_all(atoms);
+        Ok(())
+    }
+
+    /// Makes place for atoms and joins them. After an error what the partition says is as before.
+    pub fn insert_all(&mut self, atoms: List<Atom>) -> Result<(), AllocError>
+        ensures joins { OnOk result (JoinsAll atoms self.old self.new) }
+        ensures makes { OnErr result (MakesPlaces atoms self.old self.new) }
+    {
+        match row_of_all(atoms.as_slice())? {
+            Some(row) => self.spots.insert(row, atoms),
+            None => self.insert_rows(atoms),
         }
     }
 }

@@ -1,13 +1,13 @@
 //! Atoms one after another that are of one row.
 
-ghost use Rattle.std.specs.Prelude.{◌≡◌, ◌≤◌, true, None, Some, IfOk, length, take};
+ghost use Rattle.std.specs.Prelude.{◌≡◌, ◌≤◌, true, None, Some, IfOk, IfSome, length, take};
 ghost use Rattle.std.specs.List.{AllByRecursion};
 ghost use Rattle.std.specs.Vec.Iter.{into_iter_items};
 ghost use Rattle.cas_partition.specs.Placed.{wanted, row_key};
 ghost use Rattle.cas_partition.specs.Inner.Firsts.{with_first};
 ghost use Rattle.cas_partition.specs.Inner.Runs.{room_place, room_tag, IsInRow};
 
-use crate::spot::Place;
+use crate::spot::{Place, row_of};
 use cas_atoms::{Atom, ColumnRef};
 use cas_bounds::{Clustering, End, MapKey, Ordered};
 use cas_types::{Bytes, TypeTag};
@@ -79,6 +79,20 @@ pub(crate) fn count_in(row: &Option<MapKey>, atoms: &[Atom]) -> usize
         rest = later;
     }
     count
+}
+
+/// The row that all of these are of, copied, if they are of one.
+pub(crate) fn row_of_all(atoms: &[Atom]) -> Result<Option<Option<MapKey>>, AllocError>
+    ensures { IfOk result (λ o. IfSome o (λ row. AllByRecursion (IsInRow row) atoms.now)) }
+{
+    if let [atom, others @ ..] = atoms {
+        if let Some(row) = row_of(atom)? {
+            if count_in(&row, others) == others.len() {
+                return Ok(Some(row));
+            }
+        }
+    }
+    Ok(None)
 }
 
 // A column as a whole.

@@ -5,6 +5,7 @@ ghost use Rattle.cas_cell.specs.Cells.{cell_cmp};
 ghost use Rattle.cas_atoms.specs.Greatest.{greater};
 ghost use Rattle.cas_partition.specs.Spots.{joined_content, blank};
 ghost use Rattle.cas_partition.specs.Placed.{row_key, spot, given, wanted};
+ghost use Rattle.cas_partition.specs.Inner.Runs.{room_row};
 
 use cas_atoms::{Atom, ColumnRef, greater_deletion, greater_live};
 use cas_bounds::{Clustering, Cut, MapKey};
@@ -219,5 +220,19 @@ pub(crate) fn wanted(atom: &Atom) -> Result<Room, AllocError>
         Atom::StaticCollectionDeletion(column, _) => {
             Room::At(of_static(*column, None), column.path)
         }
+    })
+}
+
+/// The row that the atom is of, or the static row, copied.
+pub(crate) fn row_of(atom: &Atom) -> Result<Option<Option<MapKey>>, AllocError>
+    ensures { IfOk result (λ r. r ≡ room_row (wanted atom.now)) }
+{
+    Ok(match atom {
+        Atom::PartitionDeletion(_) | Atom::RangeDeletion(_, _, _) => None,
+        Atom::RowDeletion(row, _) => Some(of_row(row.copied()?).row),
+        Atom::CollectionDeletion(row, _, _) => Some(of_row(row.copied()?).row),
+        Atom::Live(row, _) => Some(of_row(row.copied()?).row),
+        Atom::Write(row, _, _, _) => Some(of_row(row.copied()?).row),
+        Atom::StaticWrite(_, _, _) | Atom::StaticCollectionDeletion(_, _) => Some(None),
     })
 }

@@ -10,7 +10,7 @@ ghost use Rattle.cas_partition.specs.Placed.{given};
 ghost use Rattle.cas_partition.specs.Partitions.{with_spot};
 ghost use Rattle.cas_partition.specs.Inner.Firsts.{with_first};
 ghost use Rattle.cas_partition.specs.Inner.Rows.{place_of, body_of, with_place, joined_place};
-ghost use Rattle.cas_partition.specs.Inner.Runs.{IsInRow, with_places, with_rooms, PartlyMade, RowPartlyMade};
+ghost use Rattle.cas_partition.specs.Inner.Runs.{IsInRow, with_places, with_rooms, IsPart, PartlyMade, RowPartlyMade, RowHasSome};
 ghost use Rattle.cas_partition.specs.Inner.Runs.{JoinsRun, joined_by, joined_spot, joined_spots, joined_places};
 ghost use Rattle.cas_partition.specs.Inner.Lent.{rows_in, LendsRows};
 
@@ -21,7 +21,7 @@ use crate::runs::{first_of, is_in_row, place_of, tag_of};
 use crate::spot::{Addition, Content, Place, Spot, given};
 use cas_atoms::Atom;
 use cas_bounds::MapKey;
-use cas_types::TypeTag;
+use cas_types::{List, TypeTag};
 use std::alloc::{AllocError, Global};
 use std::collections::BTreeMap;
 use std::collections::btree_map::Entry;
@@ -50,6 +50,19 @@ impl Model for Spots {
     ghost invariant = { λ s. AreRows s.rows.entries };
 }
 
+// Makes a place in a row for each of these atoms.
+fn reserve_each(body: &mut Body, atoms: &[Atom]) -> Result<(), AllocError>
+    ensures made { OnOk result (body.new ≡ with_places atoms.now body.old) }
+    ensures part { OnErr result (IsPart atoms.now (λ first. body.new ≡ with_places first body.old)) }
+{
+    let mut rest = atoms;
+    while let [atom, later @ ..] = rest {
+        body.reserve(place_of(atom)?, tag_of(atom))?;
+        rest = later;
+    }
+    Ok(())
+}
+
 // Makes a place in a row, and then for further atoms of it.
 fn reserve_in(
     body: &mut Body,
@@ -62,12 +75,7 @@ fn reserve_in(
 {
     body.make_room(others.len().saturating_add(1))?;
     body.reserve(place, tag)?;
-    let mut rest = others;
-    while let [atom, later @ ..] = rest {
-        body.reserve(place_of(atom)?, tag_of(atom))?;
-        rest = later;
-    }
-    Ok(())
+    reserve_each(body, others)
 }
 
 // The same in a row that may have to be made.
@@ -97,6 +105,44 @@ fn join_atom(body: &mut Body, atom: Atom)
     if let Addition::At(spot, content) = given(atom) {
         let Spot { column, path, .. } = spot;
         body.join(Place { column, path }, content);
+    }
+}
+
+// Joins what each of these atoms adds.
+fn join_each(body: &mut Body, atoms: List<Atom>)
+    ensures { body.new ≡ joined_places atoms body.old }
+{
+    let mut rest = atoms.into_vec().into_iter();
+    while let Some(atom) = first_of(&mut rest) {
+        join_atom(body, atom);
+    }
+}
+
+// Makes places in a row for atoms of it, and joins them.
+fn insert_in(body: &mut Body, atoms: List<Atom>) -> Result<(), AllocError>
+    ensures made { OnOk result (body.new ≡ joined_places atoms (with_places atoms body.old)) }
+    ensures part { OnErr result (IsPart atoms (λ first. body.new ≡ with_places first body.old)) }
+{
+    body.make_room(atoms.len())?;
+    reserve_each(body, atoms.as_slice())?;
+    join_each(body, atoms);
+    Ok(())
+}
+
+// The same in a row that may have to be made.
+fn insert_row(
+    rows: &mut BTreeMap<RowKey, Body>,
+    alloc: Global,
+    row: Option<MapKey>,
+    atoms: List<Atom>,
+) -> Result<(), AllocError>
+    ensures made { OnOk result (rows.new.entries ≡ insert_entry row_cmp rows.old.entries row
+        (joined_places atoms (with_places atoms (body_of row rows.old.entries)))) }
+    ensures part { OnErr result (RowHasSome atoms row rows.old.entries rows.new.entries) }
+{
+    match rows.entry(RowKey::of(row))? {
+        Entry::Occupied(there) => insert_in(there.into_mut(), atoms),
+        Entry::Vacant(vacant) => insert_in(vacant.insert(Body::new(alloc)), atoms),
     }
 }
 
@@ -165,6 +211,19 @@ impl Spots {
         ensures part { OnErr result (PartlyMade with_rooms others.now self.old (with_spot spot tag self.old) self.new) }
     {
         reserve_row(&mut self.rows, self.alloc, spot, tag, others)
+    }
+
+    /// Makes places for atoms of one row, and joins them.
+    pub(crate) fn insert(
+        &mut self,
+        row: Option<MapKey>,
+        atoms: List<Atom>,
+    ) -> Result<(), AllocError>
+        requires { AllByRecursion (IsInRow row) atoms }
+        ensures made { OnOk result (self.new ≡ joined_spots atoms (with_rooms atoms self.old)) }
+        ensures part { OnErr result (IsPart atoms (λ first. self.new ≡ with_rooms first self.old)) }
+    {
+        insert_row(&mut self.rows, self.alloc, row, atoms)
     }
 
     /// Joins what is said at a spot, and then the atoms that come next and are of its row. The first one

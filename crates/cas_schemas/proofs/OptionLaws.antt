@@ -13,8 +13,7 @@ use Rattle.cas_codec.proofs.FieldLaws.{u16_field, u32_field, u64_field}
 use Rattle.cas_codec.proofs.Sequences.{exact_two, exact_three, exact_four}
 use Rattle.std.specs.Int.{is_in_range}
 use Rattle.cas_schemas.specs.declared.ranges.Range.{Range}
-use Rattle.cas_schemas.specs.declared.ranges.TheConstants.{GRACE_LIMIT, MIN_THRESHOLD, MAX_THRESHOLD, BUCKET_LOW, BUCKET_HIGH}
-use Rattle.cas_schemas.specs.declared.ranges.TheConstants.{MIN_SSTABLE_SIZE, SSTABLE_SIZE_IN_MB, FANOUT_SIZE, WINDOW_SIZE}
+use Rattle.cas_schemas.specs.declared.ranges.TheConstants.{GRACE_LIMIT, MIN_THRESHOLD, MAX_THRESHOLD, BUCKET_LOW, BUCKET_HIGH, MIN_SSTABLE_SIZE, SSTABLE_SIZE_IN_MB, FANOUT_SIZE, WINDOW_SIZE}
 use Rattle.cas_schemas.specs.Codes.{strategy_code, unit_code, strategy_of, unit_of, coded_at}
 use Rattle.cas_schemas.specs.Options.{allows, is_leveled, has_buckets, has_windows, allows_most, allows_unit, FitsOptions}
 use Rattle.cas_schemas.specs.Reading.{ages_at, most_at, buckets_at, sizes_at, unit_at, window_at, made_options, options_at}

@@ -4,7 +4,7 @@ use Rattle.std.specs.Prelude.{ℕ, ◌==◌, nat_lt, Bool, true, ◌&&◌, List,
 use Rattle.std.specs.Int.{is_in_range}
 use Rattle.cas_codec.specs.Reading.{Left, Read, ◌>>=◌, checked, u16_at, u32_at, u64_at, bytes16_at, there_at}
 use Rattle.cas_types.specs.Schemas.{is_map}
-use Rattle.cas_types.specs.declared.limits.TheConstants.{TTL_LIMIT}
+use Rattle.cas_types.specs.declared.limits.TheConstants.{TTL_LIMIT, COLUMN_LIMIT}
 use Rattle.cas_types.specs.declared.tag.TypeTag.{TypeTag}
 use Rattle.cas_types.specs.declared.schema.Kind.{Kind}
 use Rattle.cas_types.specs.declared.schema.Shape.{Shape}
@@ -21,7 +21,6 @@ use Rattle.cas_schemas.specs.Each.{each_at}
 use Rattle.cas_schemas.specs.Names.{is_new_column, is_new_table}
 use Rattle.cas_schemas.specs.Options.{allows, is_leveled, has_buckets, has_windows, allows_most, allows_unit}
 use Rattle.cas_schemas.specs.Columns.{may_stand, may_have}
-use Rattle.cas_types.specs.declared.limits.TheConstants.{COLUMN_LIMIT}
 
 -- ---- columns
 

@@ -29,11 +29,9 @@ use Rattle.cas_sessions.specs.Calls.{IsTrueOf}
 use Rattle.cas_lasting.specs.Entered.{IsLeftAmid}
 use Rattle.cas_lasting.specs.Listing.{SameUpTo}
 use Rattle.cas_sessions.specs.Flushes.{AreBegun, Flushes, FlushesNamed, FlushesTable, WhyNoFurther}
-use Rattle.cas_lasting.specs.Flushed.{AreInFiles, AscendTo, Flushed, Grows, SaySomething, change_of, changes_by, numbers_added}
-use Rattle.cas_lasting.specs.Flushed.{numbers_in, reach_by, without_begun, without_flushed}
+use Rattle.cas_lasting.specs.Flushed.{AreInFiles, AscendTo, Flushed, Grows, SaySomething, change_of, changes_by, numbers_added, numbers_in, reach_by, without_begun, without_flushed, FlushedOne, filled_with, rest_with}
 use Rattle.cas_lasting.specs.History.{History, DiskState, shard_at}
 use Rattle.cas_lasting.specs.Nodes.{AreFilled, Explains, State, StandsFor, LastsFor, LastsForOne, GoesOnTo, KeepsAll, Moves, disk_of, filled_of}
-use Rattle.cas_lasting.specs.Flushed.{FlushedOne, filled_with, rest_with}
 use Rattle.cas_sessions.specs.Filling.{IsBegun, SaysNone, listed_of}
 use Rattle.cas_lasting.specs.Inner.Going.{AreStood, GoesOn}
 use Rattle.cas_sessions.specs.Inner.Flushing.{FlushesFirst, FlushesNoFurther, FlushesOne, IsOwn, TellsReads}

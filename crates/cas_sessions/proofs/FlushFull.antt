@@ -11,8 +11,7 @@ use Rattle.cas_sessions.specs.declared.answer.Fault.TheVariants.{Refused, Stoppe
 use Rattle.cas_sessions.specs.Calls.{IsTrueOf}
 use Rattle.cas_lasting.specs.Entered.{IsLeftAmid}
 use Rattle.cas_sessions.specs.Filling.{EndsIn, FlushesFull, FlushesIf, FlushesIn, Settles, is_full, listed_of}
-use Rattle.cas_lasting.specs.Flushed.{filled_with, rest_with}
-use Rattle.cas_lasting.specs.Flushed.{AscendTo, SaySomething, changes_by, numbers_in}
+use Rattle.cas_lasting.specs.Flushed.{filled_with, rest_with, AscendTo, SaySomething, changes_by, numbers_in}
 use Rattle.cas_lasting.specs.History.{DiskState, History, shard_at}
 use Rattle.cas_lasting.specs.Nodes.{GoesOnTo, KeepsAll, LastsForOne, Moves, State, StandsFor, disk_of, filled_of}
 use Rattle.cas_sessions.specs.Inner.Flushing.{FlushesOne, IsOwn}

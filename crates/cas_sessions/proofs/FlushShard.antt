@@ -41,7 +41,7 @@ use Rattle.cas_room.specs.declared.table_files.TheConstants.{LIVE_LIMIT}
 use Rattle.cas_recovery.proofs.Places.{get_here, get_other, is_other, is_same, length_set, same_place}
 use Rattle.cas_sessions.specs.declared.answer.Fault.{Fault}
 use Rattle.cas_sessions.specs.declared.answer.Fault.TheVariants.{Refused, Stopped, Disk as Failed, Read, BadBlock, Mem}
-use Rattle.cas_lasting.specs.Flushed.{AreInFiles, AscendTo, Grows, ListsOne, SaySomething, WhyTooMany, numbers_in, reach_by}
+use Rattle.cas_lasting.specs.Flushed.{AreInFiles, AscendTo, Grows, ListsOne, SaySomething, WhyTooMany, numbers_in, reach_by, FlushedOne, filled_with, rest_with}
 use Rattle.cas_sessions.specs.Flushes.{WhyNoFurther}
 use Rattle.cas_recovery.specs.Restored.{Remember, RemembersJust}
 use Rattle.cas_lasting.specs.Listing.{SameUpTo}
@@ -49,16 +49,14 @@ use Rattle.cas_lasting.specs.History.{History, DiskState, shard_at}
 use Rattle.cas_lasting.specs.Nodes.{AreFilled, RememberJust, State, StandsFor, LastsFor, LastsForOne, disk_of, files_in, files_of, filled_of}
 use Rattle.cas_sessions.specs.Inner.Faults.{fault_for}
 use Rattle.cas_sessions.specs.Filling.{EndsIn, IsBegun, SaysNone, TellsIt, listed_of}
-use Rattle.cas_lasting.specs.Flushed.{FlushedOne, filled_with, rest_with}
 use Rattle.cas_lasting.specs.Inner.Going.{AddsFile, GoesOn, GoesOnAs, IsChangeFor, Lists, Quiet, StandsSo}
 use Rattle.cas_sessions.specs.Inner.Flushing.{Fills, FlushesOne, IsOwn, Moved, NewFile, SaysSo, TakesFile, TellsReads, WhyNotMade}
 use Rattle.cas_lasting.proofs.Filled.{filled_still}
 use Rattle.cas_lasting.proofs.FlushChange.{below_next, lists_done, lists_failed}
 use Rattle.cas_lasting.proofs.FlushExplains.{explains_told, explains_untold}
 use Rattle.cas_lasting.proofs.FlushFiles.{SayNothing, in_files, memory_says_nothing, rest_says_nothing}
-use Rattle.cas_lasting.proofs.FlushSteps.{amid_then, beside_then, files_again, one_goes_on, quiet_amid, quiet_beside, quiet_explains, quiet_goes, quiet_lasts}
+use Rattle.cas_lasting.proofs.FlushSteps.{amid_then, beside_then, files_again, one_goes_on, quiet_amid, quiet_beside, quiet_explains, quiet_goes, quiet_lasts, quiet_stands, same_shards, stands_again, with_state}
 use Rattle.cas_lasting.proofs.Lasting.{lasts_as}
-use Rattle.cas_lasting.proofs.FlushSteps.{quiet_stands, same_shards, stands_again, with_state}
 use Rattle.cas_lasting.proofs.Listing.{up_to_same}
 use Rattle.cas_lasting.proofs.Remembering.{some_of_just}
 

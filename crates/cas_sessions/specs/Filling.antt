@@ -1,17 +1,15 @@
 -- A flush of one shard, which no line tells: a memtable that has grown over its limit is flushed.
 -- Cassandra documentation, "Storage engine: memtables"; the limit in bytes of records is own.
-use Rattle.std.specs.Prelude.{◌≡◌, ℕ, ◌+◌, ◌≤◌, nat_lt, Bool, true, false, Option, None, Some, Result, Ok, Err}
-use Rattle.std.specs.Prelude.{IfOk, IfSome, List, [], ◌∷◌, length, slice_get}
+use Rattle.std.specs.Prelude.{◌≡◌, ℕ, ◌+◌, ◌≤◌, nat_lt, Bool, true, false, Option, None, Some, Result, Ok, Err, IfOk, IfSome, List, [], ◌∷◌, length, slice_get}
 use Rattle.cas_types.specs.declared.schema.TableSchema.{TableSchema}
 use Rattle.cas_atoms.specs.declared.atom.Mutation.{Mutation}
 use Rattle.cas_changes.specs.declared.entry.Change.{Change}
 use Rattle.cas_shard.specs.Shards.{ShardHistory}
 use Rattle.cas_sessions.specs.declared.answer.Fault.{Fault}
 use Rattle.cas_sessions.specs.declared.answer.Fault.TheVariants.{Mem, Stopped}
-use Rattle.cas_lasting.specs.Flushed.{AscendTo, SaySomething, changes_by, numbers_in}
+use Rattle.cas_lasting.specs.Flushed.{AscendTo, SaySomething, changes_by, numbers_in, FlushedOne, rest_with, filled_with}
 use Rattle.cas_sessions.specs.Flushes.{WhyNoFurther}
 use Rattle.cas_lasting.specs.History.{History, DiskState, shard_at}
-use Rattle.cas_lasting.specs.Flushed.{FlushedOne, rest_with, filled_with}
 
 -- ---- one shard
 

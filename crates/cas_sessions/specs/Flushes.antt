@@ -1,7 +1,6 @@
 -- What a flush of a table does, in the words of the history: what each shard has of it in memory comes into one table file more. No SELECT shows more or less.
 -- Cassandra documentation, "nodetool flush"; "Storage engine: memtables, SSTables"; the numbers of files and of faults are own.
-use Rattle.std.specs.Prelude.{◌≡◌, ◌⊎◌, ℕ, ◌+◌, ◌<◌, true, false, Option, None, Some, Result, Ok, Err}
-use Rattle.std.specs.Prelude.{List, length}
+use Rattle.std.specs.Prelude.{◌≡◌, ◌⊎◌, ℕ, ◌+◌, ◌<◌, true, false, Option, None, Some, Result, Ok, Err, List, length}
 use Rattle.std.specs.List.{fold}
 use Rattle.cas_types.specs.declared.schema.TableSchema.{TableSchema}
 use Rattle.cas_io.specs.Causes.{Rose}

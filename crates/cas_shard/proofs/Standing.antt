@@ -17,8 +17,7 @@ use Rattle.cas_shard.specs.declared.entry.Entry.TheVariants.{Wrote}
 use Rattle.cas_shard.specs.declared.entry.ShardOpening.{ShardOpening}
 use Rattle.cas_shard.specs.Entries.{last_number}
 use Rattle.cas_shard.proofs.Numbers.{drawn_of_none, last_of_none, last_drawn_more, last_number_more}
-use Rattle.cas_shard.specs.Shards.{Prepares, ShardHistory, all_entries, drawn_with, entered, entry_unless, found_shard, later_drawn, later_moment}
-use Rattle.cas_shard.specs.Shards.{mutation_at, next_number, prepare_answer, raised, restored, take_refusal, taken_unless, told_shard, write_answer, write_entries}
+use Rattle.cas_shard.specs.Shards.{Prepares, ShardHistory, all_entries, drawn_with, entered, entry_unless, found_shard, later_drawn, later_moment, mutation_at, next_number, prepare_answer, raised, restored, take_refusal, taken_unless, told_shard, write_answer, write_entries}
 use Rattle.cas_stored.specs.Stored.{StoredTable}
 use Rattle.cas_shard.specs.Stands.{Belongs, Holds, ShardState, Stands, mutations_of, of_table, order_at}
 use Rattle.cas_shard.specs.Inner.Stores.{AllStay, JoinsRoom, MakesRoom}

@@ -7,7 +7,7 @@ ghost use Rattle.cas_shard.specs.Shards.{drawn_with, take_refusal};
 
 use crate::answers::{Look, TakeFault};
 use crate::rows::rows_of;
-use crate::stores::{adopt, bytes, files, freeze, frozen, join, reserve, swap, view_with};
+use crate::stores::{adopt, bytes, files, freeze, frozen, insert, join, reserve, swap, view_with};
 use cas_atoms::{Mutation, Query, length};
 use cas_blocks::TableFault;
 use cas_disk::{Count, Sealed};
@@ -153,11 +153,13 @@ impl<S: Sealed> Shard<S> {
         ensures bytes { (n : ℕ) → bytes_at (slice_get self.new.stores n)
             ≡ bytes_of (bytes_at (slice_get self.old.stores n)) (if is_ok result then one_of n mutation else []) }
     {
-        reserve(&mut self.stores, alloc, &mutation)?;
-        self.number = self.number.max(mutation.number);
-        self.drawn = drawn_with(self.drawn, &mutation);
-        self.moment = self.moment.max(mutation.moment);
-        join(&mut self.stores, mutation);
+        let number = self.number.max(mutation.number);
+        let drawn = drawn_with(self.drawn, &mutation);
+        let moment = self.moment.max(mutation.moment);
+        insert(&mut self.stores, alloc, mutation)?;
+        self.number = number;
+        self.drawn = drawn;
+        self.moment = moment;
         Ok(())
     }
 

@@ -5,7 +5,7 @@ ghost use Rattle.std.specs.Arc.{arc_value};
 ghost use Rattle.cas_view.specs.Views.{file_of, files_of};
 ghost use Rattle.cas_shard.specs.Flushing.{bytes_at, frozen_at};
 ghost use Rattle.cas_shard.specs.Stands.{HasRoom, TakesFiles, files_at};
-ghost use Rattle.cas_shard.specs.Inner.Stores.{AllStay, JoinsRoom, KeepBytes, KeepFiles, MakesRoom, MemoryStays, OthersStay, StayFew, Swaps};
+ghost use Rattle.cas_shard.specs.Inner.Stores.{AllStay, InsertsRoom, JoinsRoom, KeepBytes, KeepFiles, MakesRoom, MemoryStays, OthersStay, StayFew, Swaps};
 
 use cas_atoms::Mutation;
 use cas_disk::Sealed;
@@ -53,6 +53,20 @@ pub(crate) fn join<S: Sealed>(stores: &mut Vec<TableStore<S>>, mutation: Mutatio
 {
     let store = &mut stores[mutation.table as usize];
     store.apply(mutation);
+}
+
+/// Makes place for a mutation and joins it.
+pub(crate) fn insert<S: Sealed>(
+    stores: &mut Vec<TableStore<S>>,
+    alloc: Global,
+    mutation: Mutation,
+) -> Result<(), Mem>
+    ensures { InsertsRoom result mutation stores.old.items stores.new.items }
+{
+    let table = mutation.table;
+    reach(stores, alloc, table)?;
+    let store = &mut stores[table as usize];
+    Ok(store.insert(mutation)?)
 }
 
 /// Freezes what a table has in memory.

@@ -9,12 +9,10 @@ use Rattle.cas_types.specs.declared.schema.Column.{Column}
 use Rattle.cas_cell.specs.declared.cell.Cell.{Cell}
 use Rattle.cas_cell.specs.declared.deletion.Deletion.{Deletion}
 use Rattle.cas_cell.specs.declared.liveness.Liveness.{Liveness}
-use Rattle.cas_atoms.specs.Coordinates.{Coordinate, RowKey, row, path, clustered, static_row}
-use Rattle.cas_atoms.specs.Coordinates.{same_row, same_values, same_bytes, is_at, live_at_row, cell_at_path}
+use Rattle.cas_atoms.specs.Coordinates.{Coordinate, RowKey, row, path, clustered, static_row, same_row, same_values, same_bytes, is_at, live_at_row, cell_at_path}
 use Rattle.cas_atoms.specs.LogLength.{short_length, values_length, deletion_length, cell_length, live_length, atom_length}
 use Rattle.cas_atoms.specs.declared.atom.Atom.{Atom}
-use Rattle.cas_atoms.specs.declared.atom.Atom.TheVariants.{PartitionDeletion, RangeDeletion, RowDeletion, CollectionDeletion}
-use Rattle.cas_atoms.specs.declared.atom.Atom.TheVariants.{Live, Write, StaticWrite, StaticCollectionDeletion}
+use Rattle.cas_atoms.specs.declared.atom.Atom.TheVariants.{PartitionDeletion, RangeDeletion, RowDeletion, CollectionDeletion, Live, Write, StaticWrite, StaticCollectionDeletion}
 use Rattle.cas_laws.specs.Given.{Gives, Has}
 use Rattle.cas_laws.proofs.ShownProofs.{both_hold, equal_values, equal_bytes, equal_rows}
 use Rattle.cas_streams.specs.Flat.{atom_of, own, ranges, changes}

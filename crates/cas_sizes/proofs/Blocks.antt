@@ -10,8 +10,7 @@ use Rattle.cas_codec.specs.Fields.{u32, bytes16, flag, maybe}
 use Rattle.cas_codec.proofs.FieldLengths.{u32_long, flag_long, bytes16_long, bytes32_long}
 use Rattle.cas_records.specs.Spelling.{deletion_bytes}
 use Rattle.cas_records.proofs.CellLaws.{deletion_long}
-use Rattle.cas_fragments.specs.Blocks.{is_full, last_block, blocks_from, blocks_of, statics_in, behind_statics}
-use Rattle.cas_fragments.specs.Blocks.{statics_bytes, head_bytes, blocks_bytes, partition_bytes}
+use Rattle.cas_fragments.specs.Blocks.{is_full, last_block, blocks_from, blocks_of, statics_in, behind_statics, statics_bytes, head_bytes, blocks_bytes, partition_bytes}
 use Rattle.cas_fragments.specs.Lengths.{columns_length}
 use Rattle.cas_fragments.specs.Spelling.{body_bytes, block_bytes}
 use Rattle.cas_fragments.specs.declared.heads.Version.{Version}

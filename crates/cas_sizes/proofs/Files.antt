@@ -17,10 +17,7 @@ use Rattle.cas_filter.specs.Spelling.{filter_bytes}
 use Rattle.cas_fragments.specs.Blocks.{behind_statics}
 use Rattle.cas_fragments.specs.Spelling.{block_bytes}
 use Rattle.cas_fragments.specs.declared.heads.Version.{Version}
-use Rattle.cas_index.specs.Spelling.{index_bytes}
-use Rattle.cas_index.specs.Spelling.{block_bytes as entry_bytes}
-use Rattle.cas_index.specs.Spelling.{partition_bytes as place_bytes}
-use Rattle.cas_index.specs.Spelling.{head_bytes as place_head}
+use Rattle.cas_index.specs.Spelling.{index_bytes, block_bytes as entry_bytes, partition_bytes as place_bytes, head_bytes as place_head}
 use Rattle.cas_index.specs.declared.entries.BlockEntry.{BlockEntry}
 use Rattle.cas_index.specs.declared.entries.PartitionEntry.{PartitionEntry}
 use Rattle.cas_index.specs.declared.footer.TheConstants.{FOOTER_LENGTH}

@@ -16,6 +16,7 @@ pub record Mark : Type 0 where
   pub place : Place
   pub opens : Option (Option Deletion)
 
+-- the mark of a fragment: static columns stand nowhere, a row at its clustering, a marker at its cut
 abbrev pub mark_of : Fragment → Mark
 mark_of (fragment.Static columns) = record { place = None; opens = None }
 mark_of (fragment.Row r) = record { place = Some (row_point r.clustering.values); opens = None }

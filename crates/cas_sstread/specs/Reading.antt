@@ -34,7 +34,7 @@ filled_at reading left = do
   found ← reading left
   if length found.1.bytes == 0 then Ok found.0 else Err (Bad found.1.at)
 
--- a footer at the file's end; the places that it tells lie in order between the header and the footer
+-- the places that a footer tells lie in order between the header and the footer, which stands at end; the first that doesn't is bad
 unfoldable pub in_order : ℕ → Footer → Result Footer ReadFault
 in_order end f =
     if is_in_range HEADER_LENGTH end f.index then
@@ -43,6 +43,7 @@ in_order end f =
     else Err (Bad (end + 8)))
     else Err (Bad end)
 
+-- a footer, behind which nothing is left, and whose places lie in order
 unfoldable pub last_footer_at : Left → Result Footer ReadFault
 last_footer_at left = do
   footer ← filled_at footer_at left

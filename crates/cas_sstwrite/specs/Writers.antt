@@ -27,10 +27,11 @@ use Rattle.cas_sstwrite.specs.declared.held.TableWriter.{TableWriter}
 abbrev pub fault_of : {D E : Type 0} → TableWriter D E → Option (PartitionFault E)
 fault_of w = w.broken
 
--- what its index is to tell so far, and where the next partition is to stand
+-- what its index is to tell so far
 abbrev pub entries_of : {D E : Type 0} → TableWriter D E → List PartitionEntry
 entries_of w = w.entries.items
 
+-- where the next partition is to stand
 abbrev pub place_of : {D E : Type 0} → TableWriter D E → ℕ
 place_of w = w.sink.place
 

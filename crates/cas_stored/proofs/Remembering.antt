@@ -43,6 +43,13 @@ module _ (columns : List Column) (ms ns : List MemPart) (of : AllByRecursion (Is
         all = all ∙ ap (λ l. l ++ w ∷ []) just.all;
       }
 
+  -- or not
+  pub just_joined_if : (b : Bool) (front : List MemPart) (m : MemPart) (w : Mutation) → ms ≡ front ++ m ∷ [] → MayHold columns w
+      → ((order : List Ordered) (wss : List (List Mutation)) → StandInEach order ms wss → AreAtomsOf order w.atoms
+      → StandInEach order ns (if b then with_one w wss else wss)) → HoldJust columns ns (if b then ws ++ w ∷ [] else ws)
+  just_joined_if true front m w are may keeps = just_joined front m w are may keeps
+  just_joined_if false front m w are may keeps = just_reserved w may keeps
+
   -- a memtable was begun, or not
   pub just_begun : (b : Bool) → ((order : List Ordered) (wss : List (List Mutation)) → StandInEach order ms wss → StandInEach order ns (if b then begun wss else wss))
       → HoldJust columns ns ws

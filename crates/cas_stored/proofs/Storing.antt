@@ -1,5 +1,5 @@
 -- What a table has stored holds after a change of its memtables.
-use Rattle.std.proofs.Common.{◌≡◌, Bool, true, false, List, [], ◌∷◌, ◌++◌, sym, ap, ◌∙◌, append-nil, append_assoc}
+use Rattle.std.proofs.Common.{◌≡◌, Bool, true, false, List, [], ◌∷◌, ◌++◌, refl, sym, ap, ◌∙◌, append-nil, append_assoc}
 use Rattle.std.specs.Prelude.{if◌then◌else◌}
 use Rattle.cas_bounds.specs.declared.order.Ordered.{Ordered}
 use Rattle.cas_atoms.specs.declared.atom.Mutation.{Mutation}
@@ -60,3 +60,12 @@ module _ (order : List Ordered) (w : Mutation) (front : List MemPart) (m : MemPa
   pub memory_joined : (fs : List (File Held)) (wss : List (List Mutation)) → HoldEach order fs (front ++ m ∷ []) wss
       → HoldEach order fs ns (with_one w wss) × (all_of (with_one w wss) ≡ all_of wss ++ w ∷ [])
   memory_joined fs wss holds = (holds_one fs wss holds, all_one fs wss holds)
+
+-- or not
+pub memory_joined_if : (order : List Ordered) (w : Mutation) (front : List MemPart) (m : MemPart) (ns : List MemPart) (b : Bool)
+    → ((vss : List (List Mutation)) → StandInEach order (front ++ m ∷ []) vss → StandInEach order ns (if b then with_one w vss else vss))
+    → (fs : List (File Held)) (wss : List (List Mutation)) → HoldEach order fs (front ++ m ∷ []) wss
+    → HoldEach order fs ns (if b then with_one w wss else wss)
+    × (all_of (if b then with_one w wss else wss) ≡ (if b then all_of wss ++ w ∷ [] else all_of wss))
+memory_joined_if order w front m ns true memory fs wss holds = memory_joined order w front m ns memory fs wss holds
+memory_joined_if order w front m ns false memory fs wss holds = (memory_kept order (front ++ m ∷ []) ns memory fs wss holds, refl)

@@ -110,6 +110,21 @@ impl<S: Sealed> TableStore<S> {
         self.parts.apply(mutation);
     }
 
+    /// Makes place for a mutation and joins it. After an error it holds what it held.
+    pub fn insert(&mut self, mutation: Mutation) -> Result<(), AllocError>
+        ensures holds { (order : ListOf Order) (wss : ListOf (ListOf Wrote)) → HoldsEach order self.old wss → AreAtomsOf order mutation.atoms
+            → HoldsEach order self.new (if is_ok result then with_one mutation wss else wss)
+            × (all_of (if is_ok result then with_one mutation wss else wss) ≡ (if is_ok result then all_of wss ++ mutation ∷ [] else all_of wss)) }
+        ensures columns { (columns : ListOf ColumnOf) → IsStoredOf columns self.old → AllFit columns mutation.atoms → IsStoredOf columns self.new }
+        ensures memory { (columns : ListOf ColumnOf) (ws : ListOf Wrote) → HoldJust columns (memtables_of self.old.parts) ws → MayHold columns mutation
+            → HoldJust columns (memtables_of self.new.parts) (if is_ok result then ws ++ mutation ∷ [] else ws) }
+        ensures files { self.new.files ≡ self.old.files }
+        ensures bytes { self.new.parts.active.bytes
+            ≡ (if is_ok result then bytes_with self.old.parts.active.bytes mutation else self.old.parts.active.bytes) }
+    {
+        self.parts.insert(mutation)
+    }
+
     /// Freezes the memtable that is written to, and begins another one. One whose records have no
     /// bytes stays. Where memory runs out all is as before.
     pub fn freeze(&mut self, alloc: Global) -> Result<(), Mem>

@@ -1,9 +1,8 @@
 -- Two streams of a partition joined into one, place by place, with nothing left out.
 -- Cassandra documentation, "Operating: Compaction, tombstones"; own.
-use Rattle.std.specs.Prelude.{Option, None, List, []}
+use Rattle.std.specs.Prelude.{Option, None, List, [], if◌then◌else◌}
 use Rattle.std.specs.Ordering.{nat_cmp, is_lt}
 use Rattle.std.specs.declared.cmp.Ordering.{Ordering}
-use Rattle.std.specs.Prelude.{if◌then◌else◌}
 use Rattle.cas_types.specs.declared.tag.TypeTag.{TypeTag}
 use Rattle.cas_cell.specs.Deletions.{deletion_cmp}
 use Rattle.cas_cell.specs.Lives.{live_cmp}

@@ -43,10 +43,11 @@ joined_all (pair left right) = joined (joined_all left) (joined_all right)
 abbrev pub merged : List Stream → Stream
 merged ss = settled (joined_all (draw ss))
 
--- the atoms of a stream, and of all streams one after another
+-- the atoms of a stream
 abbrev pub flat_of : Stream → List Atom
 flat_of s = flat s.top s.fragments
 
+-- the atoms of all streams, one after another
 abbrev pub flats : List Stream → List Atom
 flats ss = flat_map flat_of ss
 

@@ -20,6 +20,7 @@ pub record IsSliceOf (order : List Ordered) (s : Slice) : Type 0 where
   pub lo : s.lo.order ≡ order
   pub hi : s.hi.order ≡ order
 
+-- the fragment is the static columns of its partition
 abbrev pub is_static : Fragment → Bool
 is_static (fragment.Static columns) = true
 is_static (fragment.Row r) = false
@@ -31,18 +32,20 @@ lies_in s (fragment.Static columns) = false
 lies_in s (fragment.Row r) = is_inside s.lo s.hi r.clustering.values
 lies_in s (fragment.Marker cut d) = stands_before s.lo cut && stands_before cut s.hi
 
--- the range deletion in force right behind a cut, and right before it
+-- the range deletion in force right behind a cut
 abbrev pub force_behind : Cut → List Fragment → Option Deletion
 force_behind cut fs = after (λ k. not (stands_before cut k)) None (changes fs)
 
+-- the range deletion in force right before a cut
 abbrev pub force_before : Cut → List Fragment → Option Deletion
 force_before cut fs = after (λ k. stands_before k cut) None (changes fs)
 
--- where a deletion is in force: from the cut on it is; from the cut on none is
+-- where a deletion is in force: from the cut on it is
 abbrev pub opened_at : Cut → Option Deletion → List Fragment
 opened_at cut None = []
 opened_at cut (Some d) = fragment.Marker cut (Some d) ∷ []
 
+-- where a deletion is in force: from the cut on none is
 abbrev pub closed_at : Cut → Option Deletion → List Fragment
 closed_at cut None = []
 closed_at cut (Some d) = fragment.Marker cut None ∷ []

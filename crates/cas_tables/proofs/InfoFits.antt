@@ -15,8 +15,7 @@ use Rattle.cas_bounds.specs.declared.cuts.Clustering.{Clustering}
 use Rattle.cas_atoms.specs.Coordinates.{atom_at}
 use Rattle.cas_atoms.specs.Fits.{FitsKey, FitsTimestamp, FitsDeletion, FitsLive}
 use Rattle.cas_atoms.specs.declared.atom.Atom.{Atom}
-use Rattle.cas_atoms.specs.declared.atom.Atom.TheVariants.{PartitionDeletion, RangeDeletion, RowDeletion}
-use Rattle.cas_atoms.specs.declared.atom.Atom.TheVariants.{Live, Write, StaticWrite}
+use Rattle.cas_atoms.specs.declared.atom.Atom.TheVariants.{PartitionDeletion, RangeDeletion, RowDeletion, Live, Write, StaticWrite}
 use Rattle.cas_atoms.specs.declared.atom.ColumnRef.{ColumnRef}
 use Rattle.cas_atoms.specs.declared.row.PathCell.{PathCell}
 use Rattle.cas_atoms.specs.declared.row.RowColumn.{RowColumn}

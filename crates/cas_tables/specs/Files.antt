@@ -29,16 +29,19 @@ index_of c = entries c.header.version (length (header_bytes c.header)) c.partiti
 abbrev pub key_filter : Contents → List ℕ
 key_filter c = filter_of (bits_for (length c.partitions)) (keys c)
 
--- the index stands behind the partitions, the filter behind the index, and the info behind the filter
+-- the index stands behind the partitions
 abbrev pub index_place : Contents → ℕ
 index_place c = length (front_bytes c)
 
+-- the filter stands behind the index
 abbrev pub filter_place : Contents → ℕ
 filter_place c = index_place c + length (index_bytes (index_of c))
 
+-- the info stands behind the filter
 abbrev pub info_place : Contents → ℕ
 info_place c = filter_place c + length (filter_bytes (key_filter c))
 
+-- the footer tells these three places
 abbrev pub footer_of : Contents → Footer
 footer_of c = record { index = index_place c; filter = filter_place c; info = info_place c }
 
@@ -48,11 +51,12 @@ footer_of c = record { index = index_place c; filter = filter_place c; info = in
 abbrev pub with_info : Contents → TableInfo → List ℕ
 with_info c i = front_bytes c ++ (index_bytes (index_of c) ++ (filter_bytes (key_filter c) ++ (info_bytes i ++ footer_bytes (footer_of c))))
 
--- the first and the last of keys
+-- the first of keys
 abbrev pub first_key : List (List ℕ) → List ℕ
 first_key [] = []
 first_key (k ∷ ks) = k
 
+-- the last of keys
 abbrev pub last_key : List (List ℕ) → List ℕ
 last_key [] = []
 last_key (k ∷ []) = k

@@ -68,5 +68,6 @@ pub record PartsStand (c : Contents) (f : Facts) : Type 0 where
   pub info : StandsAt (table_bytes c f) (footer_of c).info (info_bytes (info_of c f))
   pub footer : (before : List ℕ) × (table_bytes c f ≡ before ++ footer_bytes (footer_of c))
 
+-- they do in each table file
 abbrev pub PlacesAreRight : Type 0
 PlacesAreRight = (c : Contents) (f : Facts) → PartsStand c f

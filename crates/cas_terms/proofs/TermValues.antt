@@ -32,8 +32,7 @@ use Rattle.cql_parse.specs.declared.term.Literal.TheVariants as literal
 use Rattle.cql_parse.specs.declared.term.Term.{Term}
 use Rattle.cql_parse.specs.declared.term.Term.TheVariants as term
 use Rattle.cas_terms.specs.Constants.{is_in_range, text_bytes, number_bytes, blob_bytes, uuid_bytes, boolean_bytes, constant_bytes}
-use Rattle.cas_terms.specs.Terms.{term_value, literal_value, literal_values, entry_from, entry_value, with_entry, by_path, elements_in, entries_in, set_elements, map_elements, given_elements}
-use Rattle.cas_terms.specs.Terms.{whole_elements, prepended_elements, removed_elements, entry_elements, removal_fits, key_fits}
+use Rattle.cas_terms.specs.Terms.{term_value, literal_value, literal_values, entry_from, entry_value, with_entry, by_path, elements_in, entries_in, set_elements, map_elements, given_elements, whole_elements, prepended_elements, removed_elements, entry_elements, removal_fits, key_fits}
 
 -- ---- constants
 

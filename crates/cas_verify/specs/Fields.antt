@@ -36,6 +36,7 @@ block_fields b = cut_bytes b.cut ∷ u64 b.place ∷ maybe deletion_bytes b.in_f
 abbrev pub head_fields : PartitionEntry → List (List ℕ)
 head_fields p = bytes16 p.key ∷ u64 p.place ∷ u32 (length p.blocks) ∷ []
 
+-- of a partition in the index, with its blocks
 abbrev pub partition_fields : PartitionEntry → List (List ℕ)
 partition_fields p = head_fields p ++ flat_map block_fields p.blocks
 

@@ -9,8 +9,7 @@ use Rattle.cas_words.specs.declared.words.Setting.{Setting}
 use Rattle.cas_words.specs.declared.words.Setting.TheVariants as setting
 use Rattle.cas_words.specs.Words.{Text, arguments, is_once, command_of, command_in, limits_in, number_or, is_numeral, number_between, folder_in, clock_or, text_for, AreLimits}
 use Rattle.cas_types.specs.declared.limits.TheConstants.{SHARD_LIMIT}
-use Rattle.cas_words.specs.declared.words.TheConstants.{SHARDS_USUAL, SEGMENT_LEAST, SEGMENT_LIMIT, MEMTABLE_LEAST, MEMTABLE_LIMIT, MEMTABLE_USUAL}
-use Rattle.cas_words.specs.declared.words.TheConstants.{COMPACTOR_LIMIT, COMPACTORS_USUAL}
+use Rattle.cas_words.specs.declared.words.TheConstants.{SHARDS_USUAL, SEGMENT_LEAST, SEGMENT_LIMIT, MEMTABLE_LEAST, MEMTABLE_LIMIT, MEMTABLE_USUAL, COMPACTOR_LIMIT, COMPACTORS_USUAL}
 
 -- what is given by two steps is given by the first
 then_some : {X Y : Type 0} (f : X → Option Y) (o : Option X) (y : Y) → option_and_then f o ≡ Some y → (x : X) × (o ≡ Some x) × (f x ≡ Some y)

@@ -1,5 +1,5 @@
 -- What is given, as rows of clap's matches.
-use Rattle.std.proofs.Common.{◌≡◌, ◌∙◌, ap, sym, refl, Bool, cond, true, false, List, [], ◌∷◌, ◌++◌, map, Option, Some, None, append-nil}
+use Rattle.std.proofs.Common.{◌≡◌, ◌∙◌, ap, sym, refl, Bool, cond, true, false, List, [], ◌∷◌, ◌++◌, map, Option, Some, None, append-nil, inl, inr}
 use Rattle.std.specs.Prelude.{◌||◌, not, option_map, option_and_then, slice_get, find}
 use Rattle.std.specs.Option.{option_map_or}
 use Rattle.std.specs.List.{list_any}
@@ -8,7 +8,6 @@ use Rattle.std.proofs.lemmas.Bool.{and_parts, and_from, and_left, and_right, or_
 use Rattle.std.proofs.lemmas.Cmp.{nat_list_eq_equiv}
 use Rattle.std.proofs.lemmas.List.{map-append}
 use Rattle.std.proofs.lemmas.List.Folds.{list_any-append}
-use Rattle.std.proofs.Common.{inl, inr}
 use Rattle.clap.specs.Walk.{Row, at_row, has_row, reading_by, used, with_values, without, more_values}
 use Rattle.clap.specs.Takes.{is_given}
 use Rattle.clap.specs.Facts.{explicit_source}

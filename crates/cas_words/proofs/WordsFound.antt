@@ -3,12 +3,11 @@ use Rattle.std.proofs.Common.{◌≡◌, ◌≢◌, ◌∙◌, ap, ap₂, sym, s
 use Rattle.std.specs.Prelude.{◌⊎◌, not, is_some, option_and_then, option_map, MatchOption}
 use Rattle.std.specs.List.{list_any}
 use Rattle.std.proofs.lemmas.Bool.{and_parts, cases_Bool, not-true, or_cases, or_parts, true≢false}
-use Rattle.clap.specs.Walk.{Row, nothing_held, idle, walk}
+use Rattle.clap.specs.Walk.{Row, nothing_held, idle, walk, rows_after}
 use Rattle.clap.specs.Words.{App, HasKind, Kinds, fault_of, is_simple, is_simple_and_free, kind_of, matches_of}
 use Rattle.clap.specs.Faults.{built_fault, entered_fault, level_fault, walk_fault}
 use Rattle.clap.specs.Kinds.{or_else}
 use Rattle.clap.specs.Simple.{argument_words, entered, names_of}
-use Rattle.clap.specs.Walk.{rows_after}
 use Rattle.clap.specs.declared.error.kind.ErrorKind.TheVariants as kind
 use Rattle.clap.specs.declared.error.Error.{Error}
 use Rattle.clap.proofs.OnLiterals.{clap_on_literals}

@@ -1,12 +1,11 @@
 -- A value's text is a constant, and the constant is the value.
 use Rattle.std.proofs.Common.{◌≡◌, ℕ, zero, suc, ◌+◌, ◌-◌, ◌*◌, ◌/◌, ◌%◌, ◌^◌, ◌<◌, ◌≤◌, ◌==◌, ◌&&◌, ◌||◌, eqb, nat_lt, nat_le, Bool, true, false, cond, List, [], ◌∷◌, ◌++◌, length, get_or, flat_map, Option, None, Some, refl, sym, subst, ap, ◌∙◌, arith, inl, inr, codes, All}
-use Rattle.std.specs.Prelude.{is_some, ℤ, pos, negsuc, unsigned_abs, ◌-ℤ◌, IsTrue, FitsSigned}
+use Rattle.std.specs.Prelude.{is_some, ℤ, pos, negsuc, unsigned_abs, ◌-ℤ◌, IsTrue, FitsSigned, IsAscii}
 use Rattle.std.specs.Bool.{then_some}
 use Rattle.std.specs.Int.{Width, w8, w16, w32, w64, byte_len, from_be_bytes, to_be_bytes, cast_signed, cast_unsigned}
 use Rattle.std.specs.Fmt.{decimal, signed_decimal}
 use Rattle.std.specs.List.{list_all}
 use Rattle.std.specs.Str.{is_utf8}
-use Rattle.std.specs.Prelude.{IsAscii}
 use Rattle.std.proofs.lemmas.Bool.{cases_lt, and_parts, eqb-true, leb-true}
 use Rattle.std.proofs.lemmas.Bool.Decides.{nat_tests}
 use Rattle.std.proofs.lemmas.List.{get_or_past}

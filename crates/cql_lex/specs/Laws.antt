@@ -1,6 +1,5 @@
 -- What holds of the tokens of a line.
-use Rattle.std.specs.Prelude.{◌≡◌, ◌↔◌, ℕ, Bool, true, false, ◌-◌, ◌<◌, ◌≤◌, List, [], ◌∷◌, length, take, drop, codes}
-use Rattle.std.specs.Prelude.{Some, is_some, IsTrue, IsUtf8}
+use Rattle.std.specs.Prelude.{◌≡◌, ◌↔◌, ℕ, Bool, true, false, ◌-◌, ◌<◌, ◌≤◌, List, [], ◌∷◌, length, take, drop, codes, Some, is_some, IsTrue, IsUtf8}
 use Rattle.std.specs.List.{AllByRecursion}
 use Rattle.cql_lex.specs.Characters.{is_word, first_is}
 use Rattle.cql_lex.specs.Numbers.{number_value, is_ratio}

@@ -15,8 +15,7 @@ use Rattle.cql_parse.specs.declared.syntax.Pick.{Pick}
 use Rattle.cql_parse.specs.declared.syntax.Pick.TheVariants as pick
 use Rattle.cql_parse.specs.declared.syntax.Statement.{Statement}
 use Rattle.cql_parse.specs.declared.syntax.Statement.TheVariants as statement
-use Rattle.cql_phrases.specs.Phrases.{Behind, IsBlob, IsName, IsNumber, Maybe, Phrase}
-use Rattle.cql_phrases.specs.Phrases.{Some_of, keyword, nothing, sign, ◌∣◌, ◌▸◌}
+use Rattle.cql_phrases.specs.Phrases.{Behind, IsBlob, IsName, IsNumber, Maybe, Phrase, Some_of, keyword, nothing, sign, ◌∣◌, ◌▸◌}
 use Rattle.cql_tables.specs.Tables.{IsTable, IsColumnOrder, IsCreate, IsAlter}
 use Rattle.cql_changes.specs.Changes.{IsRelation, IsInsert, IsUpdate, IsDelete}
 

@@ -12,12 +12,10 @@ use Rattle.cql_phrases.specs.Inner.Reading.{done, after_word, after_mark, after_
 use Rattle.cql_phrases.proofs.Agree.{Agrees, Shrinks, unstep, step, unchoose, choose, choose_other, phrase_at, some_is}
 use Rattle.cql_phrases.proofs.Tokens.{word_sound, word_full, other_word, mark_sound, mark_full, name_agrees, name_shrinks}
 use Rattle.cql_phrases.proofs.ClauseAgree.{MayGoOn, NotWord, Starts}
-use Rattle.cql_tables.specs.Inner.TableReading.{table_at}
+use Rattle.cql_tables.specs.Inner.TableReading.{table_at, column_order_at, ended}
 use Rattle.cql_phrases.specs.Phrases.{IsName}
-use Rattle.cql_tables.specs.Tables.{Qualified, IsTable}
+use Rattle.cql_tables.specs.Tables.{Qualified, IsTable, Direction, IsColumnOrder}
 use Rattle.cql_tables.specs.declared.syntax.ColumnOrder.{ColumnOrder}
-use Rattle.cql_tables.specs.Inner.TableReading.{column_order_at, ended}
-use Rattle.cql_tables.specs.Tables.{Direction, IsColumnOrder}
 
 -- what isn't the mark
 abbrev pub NotMark : Mark → List Lexeme → Type 0

@@ -15,21 +15,26 @@ type Short = (char, u8, i64);
 
 const NOTHING: Short = ('-', 0, 0);
 
+// Joins what a statement writes: in the two steps of a write, or in one, as at an opening.
 fn join(
     part: &mut MemPart,
     alloc: Global,
     k: u8,
     what: Statement,
     at: u8,
+    in_one: bool,
 ) -> Result<(), AllocError> {
     let mutation = mutation(alloc, k, what, at)?;
+    if in_one {
+        return part.insert(mutation);
+    }
     part.reserve(&mutation)?;
     part.apply(mutation);
     Ok(())
 }
 
 // The UPDATE at 8 is older than what the INSERT at 10 wrote. Under 3 there is only a place.
-fn written(alloc: Global) -> Result<MemPart, AllocError> {
+fn written(alloc: Global, in_one: bool) -> Result<MemPart, AllocError> {
     let mut part = MemPart::new(alloc);
     let statements = [
         (1, Statement::Insert(3), 10),
@@ -41,7 +46,7 @@ fn written(alloc: Global) -> Result<MemPart, AllocError> {
         (2, Statement::Insert(1), 30),
     ];
     for (k, what, at) in statements {
-        join(&mut part, alloc, k, what, at)?;
+        join(&mut part, alloc, k, what, at, in_one)?;
     }
     part.reserve(&mutation(alloc, 3, Statement::Insert(1), 40)?)?;
     Ok(part)
@@ -122,7 +127,6 @@ fn behind(part: &MemPart, alloc: Global, k: u8) -> Result<u8, AllocError> {
 #[test]
 fn a_memtable_says_what_was_written(rt: HostRuntime) -> Result<(), Fail> {
     let alloc = rt.alloc();
-    let part = written(alloc)?;
     let (s, r3, r5) = (('s', 0, 9), ('r', 3, 10), ('r', 5, 20));
     let (from, to, r7) = (('b', 4, 15), ('a', 6, 0), ('d', 7, 12));
     let n = NOTHING;
@@ -137,15 +141,18 @@ fn a_memtable_says_what_was_written(rt: HostRuntime) -> Result<(), Fail> {
         (2, None, Some([('r', 1, 30), n, n, n, n, n, n])),
         (3, None, None),
     ];
-    for (k, row, want) in table {
-        assert_eq!(rt; shown(&part, alloc, k, row)?, want, "{k}");
+    for in_one in [false, true] {
+        let part = written(alloc, in_one)?;
+        for (k, row, want) in &table {
+            assert_eq!(rt; shown(&part, alloc, *k, *row)?, *want, "{k}");
+        }
+        for (k, want) in [(1, Some(8)), (2, Some(30)), (3, None)] {
+            assert_eq!(rt; part.least(&key(alloc, k)?), want, "{k}");
+        }
+        for (k, next) in [(0, 1), (1, 2), (2, 0)] {
+            assert_eq!(rt; behind(&part, alloc, k)?, next, "{k}");
+        }
+        assert_eq!(rt; part.bytes(), 474);
     }
-    for (k, want) in [(1, Some(8)), (2, Some(30)), (3, None)] {
-        assert_eq!(rt; part.least(&key(alloc, k)?), want, "{k}");
-    }
-    for (k, next) in [(0, 1), (1, 2), (2, 0)] {
-        assert_eq!(rt; behind(&part, alloc, k)?, next, "{k}");
-    }
-    assert_eq!(rt; part.bytes(), 474);
     Ok(())
 }

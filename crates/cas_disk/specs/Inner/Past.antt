@@ -1,6 +1,5 @@
 -- What was done to a folder in memory, the latest first: what its calls read then, and what a crash may leave. Own.
-use Rattle.std.specs.Prelude.{◌≡◌, ◌⊎◌, ◌||◌, ℕ, ◌≤◌, nat_le, Bool, false}
-use Rattle.std.specs.Prelude.{List, [], ◌∷◌, length, replicate, Option, None, Some, is_none, if◌then◌else◌}
+use Rattle.std.specs.Prelude.{◌≡◌, ◌⊎◌, ◌||◌, ℕ, ◌≤◌, nat_le, Bool, false, List, [], ◌∷◌, length, replicate, Option, None, Some, is_none, if◌then◌else◌}
 use Rattle.cas_disk.specs.declared.name.Name.{Name}
 use Rattle.cas_disk.specs.declared.name.Name.TheVariants.{Manifest, Table}
 use Rattle.cas_disk.specs.declared.event.Stored.{Stored}

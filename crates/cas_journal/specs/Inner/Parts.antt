@@ -2,8 +2,6 @@
 use Rattle.std.specs.Prelude.{◌≡◌, ◌⊎◌, ℕ, ◌+◌, ◌-◌, ◌^◌, ◌<◌, ◌≤◌, min, nat_le, Bool, true, false, length, Option, None, Some, Result, Ok, Err}
 use Rattle.cas_gates.specs.declared.first.First.{First}
 use Rattle.cas_disk.specs.Disk.{Disk}
-use Rattle.cas_atoms.specs.declared.atom.Mutation.{Mutation}
-use Rattle.cas_atoms.specs.LogLength.{record_length}
 use Rattle.cas_log.specs.Logs.{place_of, block_length}
 use Rattle.cas_log.specs.declared.log.Log.{Log}
 use Rattle.cas_log.specs.declared.fault.LogFault.{LogFault}
@@ -39,14 +37,14 @@ Asks long most first (Err (TooLarge length limit)) = (most < long) × (length �
 Asks long most first (Err (Stopped kept)) = (long ≤ most) × (first ≡ Some kept)
 Asks long most first (Err _) = ⊥
 
--- the record fits into the segment that is written, behind what is pushed
-abbrev pub fits_in : Option Log → Mutation → Bool
-fits_in None m = false
-fits_in (Some log) m = nat_le ((place_of log).end + block_length log + record_length m) (place_of log).size
+-- a record of so many bytes fits into the segment that is written, behind what is pushed
+abbrev pub fits_in : Option Log → ℕ → Bool
+fits_in None bytes = false
+fits_in (Some log) bytes = nat_le ((place_of log).end + block_length log + bytes) (place_of log).size
 
 -- the record fits, or all that was taken is committed
-abbrev pub FitsOrSettled : Journal → Mutation → Disk → Told → Type 0
-FitsOrSettled j m disk t = ((fits_in j.log m ≡ true) × Lasts j disk t) ⊎ Lasts j disk (committed_all t)
+abbrev pub FitsOrSettled : Journal → ℕ → Disk → Told → Type 0
+FitsOrSettled j bytes disk t = ((fits_in j.log bytes ≡ true) × Lasts j disk t) ⊎ Lasts j disk (committed_all t)
 
 -- a fault with which the beginning of a segment may end
 abbrev pub MayBegin : JournalFault → Type 0

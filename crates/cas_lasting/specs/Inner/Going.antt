@@ -1,6 +1,5 @@
 -- How a store goes on amid a flush of a table in a shard (own).
-use Rattle.std.specs.Prelude.{◌≡◌, ◌⊎◌, ℕ, ◌+◌, ◌*◌, ◌≤◌, ◌<◌, false}
-use Rattle.std.specs.Prelude.{Option, Some, Result, Err, MatchResult, List, [], ◌∷◌, length, slice_get, slice_set}
+use Rattle.std.specs.Prelude.{◌≡◌, ◌⊎◌, ℕ, ◌+◌, ◌*◌, ◌≤◌, ◌<◌, false, Option, Some, Result, Err, MatchResult, List, [], ◌∷◌, length, slice_get, slice_set}
 use Rattle.std.specs.Int.{int_max}
 use Rattle.cas_types.specs.Limits.{IsMoment}
 use Rattle.cas_types.specs.declared.limits.TheConstants.{MUTATION_LIMIT}

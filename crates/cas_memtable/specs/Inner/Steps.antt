@@ -1,5 +1,5 @@
 -- What calls on the map of partitions do at each key (own).
-use Rattle.std.specs.Prelude.{◌≡◌, ℕ, cond, Option, None, Some, is_some, List, [], ◌∷◌, ◌⊎◌, Result, OnOk, IsErr, if◌then◌else◌}
+use Rattle.std.specs.Prelude.{◌≡◌, ℕ, cond, Option, None, Some, is_some, List, [], ◌∷◌, ◌⊎◌, Result, Ok, Err, OnOk, IsErr, if◌then◌else◌}
 use Rattle.std.specs.Ordering.{is_eq}
 use Rattle.cas_types.specs.Values.{bytes_cmp}
 use Rattle.cas_types.specs.declared.schema.Column.{Column}
@@ -48,6 +48,11 @@ pub record AppliesAt (key : List ℕ) (atoms : List Atom) (h : Held) (before aft
   pub puts : Puts key held before after
   pub least : held.least ≡ least_with h.least atoms
   pub joins : JoinsAll atoms h.partition held.partition
+
+-- the atoms were joined to what was held at the key, or to a blank partition; or they weren't, and place may have been made for them
+abbrev pub Inserts : {E : Type 0} → List ℕ → List Atom → (List ℕ → Option Held) → (List ℕ → Option Held) → Result (Unit {0}) E → Type 0
+Inserts key atoms before after (Ok x) = (h : Held) × StaysOrBlank (before key) (Some h) × AppliesAt key atoms h before after
+Inserts key atoms before after (Err e) = ReservesIn key atoms before after (Err e)
 
 -- the first key at which something is held
 abbrev pub first_key : List (List ℕ × Held) → Option (List ℕ)

@@ -76,6 +76,10 @@ abbrev pub RowPartlyMade : List Atom → Spot → Option TypeTag → RowsOf → 
 RowPartlyMade atoms s tag old new = (new ≡ old) ⊎ ((es : Said) × (new ≡ insert_entry row_cmp old s.row es)
     × PartlyMade with_places atoms (body_of s.row old) (with_place (place_of s) tag (body_of s.row old)) es)
 
+-- nothing was made, or the row has place for some first ones of these atoms
+abbrev pub RowHasSome : List Atom → Option MapKey → RowsOf → RowsOf → Type 0
+RowHasSome atoms row old new = (new ≡ old) ⊎ IsPart atoms (λ first. new ≡ insert_entry row_cmp old row (with_places first (body_of row old)))
+
 -- ---- atoms are joined
 
 -- what is said in a row

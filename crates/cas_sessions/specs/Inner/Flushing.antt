@@ -1,6 +1,5 @@
 -- The steps of a flush of a table in a shard (own).
-use Rattle.std.specs.Prelude.{◌≡◌, ◌⊎◌, ℕ, ◌+◌, ◌≤◌, ◌<◌, Bool}
-use Rattle.std.specs.Prelude.{Option, None, Some, IfSome, Result, IfOk, IfErr, List, [], ◌∷◌, ◌++◌, length, slice_get}
+use Rattle.std.specs.Prelude.{◌≡◌, ◌⊎◌, ℕ, ◌+◌, ◌≤◌, ◌<◌, Bool, Option, None, Some, IfSome, Result, IfOk, IfErr, List, [], ◌∷◌, ◌++◌, length, slice_get}
 use Rattle.std.specs.List.{AllByRecursion, fold}
 use Rattle.cas_types.specs.declared.schema.TableSchema.{TableSchema}
 use Rattle.cas_io.specs.Causes.{Rose}
@@ -33,9 +32,8 @@ use Rattle.cas_view.specs.Views.{File}
 use Rattle.cas_sessions.specs.declared.answer.Fault.{Fault}
 use Rattle.cas_sessions.specs.declared.answer.Fault.TheVariants.{Refused, Stopped, Disk as Failed, Read, BadBlock, Mem}
 use Rattle.cas_sessions.specs.Filling.{EndsIn, IsBegun, SaysNone, TellsIt, listed_of}
-use Rattle.cas_lasting.specs.Flushed.{filled_with, rest_with}
+use Rattle.cas_lasting.specs.Flushed.{filled_with, rest_with, AscendTo, Flushed, SaySomething}
 use Rattle.cas_sessions.specs.Flushes.{AreBegun, WhyNoFurther}
-use Rattle.cas_lasting.specs.Flushed.{AscendTo, Flushed, SaySomething}
 use Rattle.cas_lasting.specs.Flushed.{changes_by, numbers_added, numbers_in, without_begun, without_flushed}
 use Rattle.cas_lasting.specs.History.{History, DiskState, shard_at}
 use Rattle.cas_lasting.specs.Nodes.{AreFilled, State, StandsFor, LastsFor, LastsForOne, disk_of, filled_of}
@@ -134,7 +132,8 @@ pub record TakesFile (t : TableSchema) (n number : ℕ) (Says Left : Type 0) (re
       → AllByRecursion (λ k. k < number) (said_by told.entries).numbers → GoesOn Left h (changes_by h.changes change) found told s u d e
   pub numbered : IfOk result (λ told. numbers_in change ≡ number ∷ [])
   pub fills : Fills (λ before. before) s u
-  pub moves : Says → IfErr result (λ f. LastsForOne s d) → Moved (rest_with t.number n change) (λ h. EndsIn t n (shard_at h n) (h.unflushed n t.number) change result) s u
+  pub moves : Says → IfErr result (λ f. LastsForOne s d)
+      → Moved (rest_with t.number n change) (λ h. EndsIn t n (shard_at h n) (h.unflushed n t.number) change result) s u
   pub own : IfErr result IsOwn
 
 -- a flush of a table in a shard; why it failed is known where the disk keeps what some history says for which the store stands
@@ -180,7 +179,8 @@ pub record FlushesNoFurther (t : TableSchema) (f : Fault) (s u : State) (d e : D
   pub fills : Fills (without_begun t.number begun) s u
   pub moves : (c : Image) → d.reads c → LastsForOne s d
       → Moved (without_flushed t.number changes)
-      (λ h before now. Flushed h t changes now × WhyNoFurther t (length changes) (shard_at h (length changes)) (h.unflushed (length changes) t.number) before now f) s u
+      (λ h before now. Flushed h t changes now
+      × WhyNoFurther t (length changes) (shard_at h (length changes)) (h.unflushed (length changes) t.number) before now f) s u
   pub own : IsOwn f
 
 -- ---- faults

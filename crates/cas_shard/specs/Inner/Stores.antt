@@ -1,5 +1,5 @@
 -- What calls on what a shard has stored do (own).
-use Rattle.std.specs.Prelude.{◌≡◌, ℕ, ◌<◌, ◌≤◌, List, [], ◌∷◌, ◌++◌, drop, length, slice_get, take}
+use Rattle.std.specs.Prelude.{◌≡◌, ℕ, ◌<◌, ◌≤◌, Result, Ok, Err, List, [], ◌∷◌, ◌++◌, drop, length, slice_get, take}
 use Rattle.cas_types.specs.declared.schema.Column.{Column}
 use Rattle.cas_bounds.specs.declared.order.Ordered.{Ordered}
 use Rattle.cas_atoms.specs.declared.atom.Mutation.{Mutation}
@@ -57,6 +57,11 @@ pub record JoinsRoom (w : Mutation) (ps qs : List StoredTable) : Type 0 where
   pub memory : (columns : List Column) (ws : List Mutation) → MayHold columns w → HoldJust columns (memtables_at (slice_get ps w.table)) ws
       → HoldJust columns (memtables_at (slice_get qs w.table)) (ws ++ w ∷ [])
   pub bytes : bytes_at (slice_get qs w.table) ≡ bytes_with (bytes_at (slice_get ps w.table)) w
+
+-- place was made for the mutation, and it was joined; or it wasn't, and place may have been made
+abbrev pub InsertsRoom : {E : Type 0} → Result (Unit {0}) E → Mutation → List StoredTable → List StoredTable → Type 0
+InsertsRoom (Ok x) w ps qs = (mid : List StoredTable) × MakesRoom w ps mid × JoinsRoom w mid qs
+InsertsRoom (Err e) w ps qs = MakesRoom w ps qs
 
 -- the table has these files now, and so many of its oldest frozen memtables no longer: where the last file says what these did, it holds what it held
 pub record Swaps (table count : ℕ) (files : List (File Held)) (ps qs : List StoredTable) : Type 0 where

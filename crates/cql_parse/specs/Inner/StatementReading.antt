@@ -15,8 +15,7 @@ use Rattle.cql_parse.specs.declared.syntax.Statement.{Statement}
 use Rattle.cql_parse.specs.declared.syntax.Statement.TheVariants as statement
 use Rattle.cql_lex.specs.declared.token.Token.{Token}
 use Rattle.cql_phrases.specs.Lexemes.{lexemes_of}
-use Rattle.cql_phrases.specs.Inner.Reading.{Reader, done, and_then, ◌>>=◌, chosen, after_word, after_mark, word_at, mark_at}
-use Rattle.cql_phrases.specs.Inner.Reading.{name_at, list_at, list_behind}
+use Rattle.cql_phrases.specs.Inner.Reading.{Reader, done, and_then, ◌>>=◌, chosen, after_word, after_mark, word_at, mark_at, name_at, list_at, list_behind}
 use Rattle.cql_phrases.specs.Inner.Reading.{number_behind, blob_behind}
 use Rattle.cql_tables.specs.Inner.TableReading.{table_at, column_order_at, create_at, alter_at, ended}
 use Rattle.cql_changes.specs.Inner.ChangeReading.{insert_at, relation_at, update_at, delete_at}

@@ -1,7 +1,6 @@
 -- Reading from left to right: each reader answers what it read and the lexemes after it. That this is reading by the
 -- grammar is proved apart.
-use Rattle.std.specs.Prelude.{◌≡◌, ℕ, ℤ, zero, suc, ◌==◌, Bool, true, false, List, [], ◌∷◌, ◌++◌, length, Option, None, Some, Result, Ok, Err}
-use Rattle.std.specs.Prelude.{if◌then◌else◌}
+use Rattle.std.specs.Prelude.{◌≡◌, ℕ, ℤ, zero, suc, ◌==◌, Bool, true, false, List, [], ◌∷◌, ◌++◌, length, Option, None, Some, Result, Ok, Err, if◌then◌else◌}
 use Rattle.std.specs.Str.{bytes_eq}
 use Rattle.cql_phrases.specs.declared.fault.ParseFault.{ParseFault}
 use Rattle.cql_phrases.specs.declared.fault.ParseFault.TheVariants as faults

@@ -27,9 +27,8 @@ use Rattle.cql_tables.specs.declared.syntax.ColumnOrder.{ColumnOrder}
 use Rattle.cql_lex.specs.declared.token.Token.{Token}
 use Rattle.cql_phrases.specs.Lexemes.{lexemes_of}
 use Rattle.cql_tables.specs.TableNames.{are_joined}
-use Rattle.cql_phrases.specs.Inner.Reading.{Reader, done, and_then, ◌>>=◌, chosen, after_word, after_mark, word_at, mark_at}
+use Rattle.cql_phrases.specs.Inner.Reading.{Reader, done, and_then, ◌>>=◌, chosen, after_word, after_mark, word_at, mark_at, flag_at}
 use Rattle.cql_phrases.specs.Inner.Reading.{close_brace_at, name_at, from_at, list_at, in_parens, list_behind}
-use Rattle.cql_phrases.specs.Inner.Reading.{flag_at}
 use Rattle.cql_phrases.specs.Inner.TermReading.{constant_at, setting_at}
 
 unfoldable pub table_at : Reader TableName

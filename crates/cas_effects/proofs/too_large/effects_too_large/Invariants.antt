@@ -1,7 +1,6 @@
 use Rattle.std.proofs.Common.{◌≡◌, drop}
 use Rattle.std.specs.List.{flat_map}
-use Rattle.cas_effects.specs.TooLarge.{limited_values}
-use Rattle.cas_effects.specs.TooLarge.{too_large}
+use Rattle.cas_effects.specs.TooLarge.{limited_values, too_large}
 use Rattle.cas_effects.proofs.too_large.effects_too_large.Given as goal
 
 abbrev pub invariant-loop-effect : goal.invariant-loop-effect

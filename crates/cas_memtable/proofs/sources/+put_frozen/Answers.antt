@@ -1,4 +1,4 @@
-use Rattle.std.proofs.Common.{◌≡◌, ◌∷◌, map, take, drop, length, ◌-◌, sym, ap, ◌∙◌}
+use Rattle.std.proofs.Common.{◌∷◌, map, take, drop, length, ◌-◌, sym, ap, ◌∙◌}
 use Rattle.std.specs.Arc.{arc_value}
 use Rattle.cas_partition.proofs.RunLists.{rest_is}
 use Rattle.cas_partition.proofs.Taking.{on_ok_too}

@@ -1,7 +1,6 @@
-use Rattle.std.proofs.Common.{subst, sym, ap, List}
+use Rattle.std.proofs.Common.{subst, sym, ap, List, take, arith}
 use Rattle.std.specs.List.{flat_map}
 use Rattle.std.proofs.lemmas.List.{take_all}
-use Rattle.std.proofs.Common.{take, arith}
 use Rattle.cas_atoms.specs.declared.atom.Atom.{Atom}
 use Rattle.cas_facts.specs.Told.{told}
 use Rattle.cas_verify.specs.Inner.Walks.{Sees}

@@ -1,7 +1,6 @@
 -- Room for a mutation, step by step.
-use Rattle.std.proofs.Common.{◌<◌, ℕ, subst}
+use Rattle.std.proofs.Common.{◌<◌, ℕ, subst, refl}
 use Rattle.cas_journal.specs.Stores.{committed_all}
-use Rattle.std.proofs.Common.{refl}
 use Rattle.cas_journal.proofs.Holding.{committed_few}
 use Rattle.cas_journal.proofs.Reaching.{next_full}
 use Rattle.cas_journal.proofs.Tables.{tables_more}
@@ -22,8 +21,8 @@ returns-in_err-settle-clause-during g c t lasts =
 pub returns-then-has_room-clause-lasts : goal.returns-then-has_room-clause-lasts
 returns-then-has_room-clause-lasts g c t lasts =
     let disk = g.F.Folder.disk in
-    let few = committed_few c.args.self.now (disk c.args.folder.now) t (lasts.goes c.in_ok-ask.ensures.1) in
-    fitting_lasts c.settle.new.self c.args.mutation.now (disk c.settle.new.folder) t few (c.in_ok-settle.ensures.lasts t (c.reserve.ensures.lasts t lasts))
+    let few = committed_few c.args.self.now (disk c.args.folder.now) t (lasts.goes c.in_ok-bytes.ensures.asks.1) in
+    fitting_lasts c.settle.new.self c.in_ok-bytes.bytes (disk c.settle.new.folder) t few (c.in_ok-settle.ensures.lasts t (c.reserve.ensures.lasts t lasts))
 
 pub returns-then-has_room-clause-during : goal.returns-then-has_room-clause-during
 returns-then-has_room-clause-during g c t lasts =
@@ -33,8 +32,8 @@ returns-then-has_room-clause-during g c t lasts =
 pub returns-clause-lasts : goal.returns-clause-lasts
 returns-clause-lasts g c t lasts =
     let disk = g.F.Folder.disk in
-    let few = committed_few c.args.self.now (disk c.args.folder.now) t (lasts.goes c.in_ok-ask.ensures.1) in
-    let settled = all_settled c.settle.new.self c.args.mutation.now (disk c.settle.new.folder) t c.has_room.result c.has_room.ensures c.if-has_room.false
+    let few = committed_few c.args.self.now (disk c.args.folder.now) t (lasts.goes c.in_ok-bytes.ensures.asks.1) in
+    let settled = all_settled c.settle.new.self c.in_ok-bytes.bytes (disk c.settle.new.folder) t c.has_room.result c.has_room.ensures c.if-has_room.false
     (c.in_ok-settle.ensures.lasts t (c.reserve.ensures.lasts t lasts)) in
     let (u, made, now) = c.next_segment.ensures.lasts (committed_all t) settled refl in
     (u, made_behind t u few made, now)
@@ -42,8 +41,8 @@ returns-clause-lasts g c t lasts =
 pub returns-clause-during : goal.returns-clause-during
 returns-clause-during g c t lasts =
     let disk = g.F.Folder.disk in
-    let few = committed_few c.args.self.now (disk c.args.folder.now) t (lasts.goes c.in_ok-ask.ensures.1) in
-    let settled = all_settled c.settle.new.self c.args.mutation.now (disk c.settle.new.folder) t c.has_room.result c.has_room.ensures c.if-has_room.false
+    let few = committed_few c.args.self.now (disk c.args.folder.now) t (lasts.goes c.in_ok-bytes.ensures.asks.1) in
+    let settled = all_settled c.settle.new.self c.in_ok-bytes.bytes (disk c.settle.new.folder) t c.has_room.result c.has_room.ensures c.if-has_room.false
     (c.in_ok-settle.ensures.lasts t (c.reserve.ensures.lasts t lasts)) in
     behind_leaves t (disk c.args.folder.now) (disk c.settle.new.folder) (disk c.next_segment.new.folder) few
     (c.settle.ensures.during t (c.reserve.ensures.lasts t lasts)) (c.next_segment.ensures.during (committed_all t) settled refl)

@@ -15,8 +15,7 @@ use Rattle.cas_refs.specs.Counts.{at}
 use Rattle.cas_shard.specs.Flushing.{frozen_at, memtables_at}
 use Rattle.cas_shard.specs.Stands.{ShardState}
 use Rattle.cas_lasting.proofs.FlushFiles.{never_none, nothing_frozen, some_first}
-use Rattle.cas_sessions.proofs.FlushMaking.{for_table, hold_too_much, is_made, its_number, more_since, never_bad, one_in_memory, quiet_reads, stands_for, told_fits, why_not_begun}
-use Rattle.cas_sessions.proofs.FlushMaking.{why_not_written}
+use Rattle.cas_sessions.proofs.FlushMaking.{for_table, hold_too_much, is_made, its_number, more_since, never_bad, one_in_memory, quiet_reads, stands_for, told_fits, why_not_begun, why_not_written}
 use Rattle.cas_sessions.proofs.FlushShard.{not_made_since}
 use Rattle.cas_lasting.proofs.FlushSteps.{quiet_then}
 use Rattle.cas_lasting.proofs.Listing.{up_to_twice}

@@ -1,13 +1,11 @@
-use Rattle.std.proofs.Common.{◌≡◌, ◌+◌, Some, inl, inr}
-use Rattle.std.proofs.Common.{w64, ℤ}
-use Rattle.std.proofs.Common.{ℕ, pos, map, Err, ap, sym, subst, ◌∙◌, refl, arith}
+use Rattle.std.proofs.Common.{◌≡◌, ◌+◌, Some, inl, inr, w64, ℤ, ℕ, pos, map, Err, ap, sym, subst, ◌∙◌, refl, arith}
 use Rattle.std.proofs.lemmas.Int.{to_z-of_z}
 use Rattle.cas_shard.specs.Shards.{prepare_answer, raised}
 use Rattle.cas_shard.specs.Stands.{ShardState, Stands}
 use Rattle.std.specs.Prelude.{slice_get, slice_set}
 use Rattle.std.proofs.lemmas.Option.{slice_get_read, slice_get_within}
 use Rattle.cas_history.specs.Items.{listed, log_list}
-use Rattle.cas_journal.specs.Stores.{took, committed_all}
+use Rattle.cas_journal.specs.Stores.{took, committed_all, SameTables}
 use Rattle.cas_recovery.proofs.Places.{length_set}
 use Rattle.cas_sessions.specs.Calls.{reply_of}
 use Rattle.cas_sessions.specs.declared.answer.Fault.{Fault}
@@ -19,7 +17,6 @@ use Rattle.cas_sessions.proofs.Telling.{printed, true_of_accepted, true_of_prepa
 use Rattle.cas_sessions.proofs.Idling.{idle_taken}
 use Rattle.cas_lasting.proofs.Crashing.{amid_nothing, amid_room, amid_taken}
 use Rattle.cas_disk.proofs.Moments.{no_call}
-use Rattle.cas_journal.specs.Stores.{SameTables}
 use Rattle.cas_room.proofs.Settling.{tables_twice}
 use Rattle.cas_lasting.proofs.Listing.{going_on, lists_held, lists_nothing, lists_room, lists_untaken, listing_twice}
 use Rattle.cas_lasting.proofs.Going.{numbers_raised, numbers_taken}
